@@ -1,0 +1,10 @@
+pub mod IntLemmas
+pub mod LinearLemmas
+pub mod ProjectionLemmas
+pub mod CombinationLemmas
+pub mod InclusionLemmas
+pub mod EliminationLemmas
+pub mod DownLemmas
+pub mod FractionLemmas
+pub mod PickLemmas
+pub mod PickExamples

@@ -1,0 +1,5 @@
+use Rattle.poly_specs.proofs.PickLemmas.{member}
+use Rattle.poly_specs.proofs.pick_is_inside.Goals as goal
+
+pub returns : goal.returns
+returns c inside z x is hz s p = member x z is hz s p

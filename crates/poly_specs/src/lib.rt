@@ -1,0 +1,48 @@
+//! The definitions of fractions, rows, their elimination and picks.
+#![tactic(auto)]
+
+ghost use Rattle.std.specs.Prelude.{◌≡◌, ◌↔◌, ℕ, ◌+◌, ◌<◌, Bool, IsTrue, List, length, ℤ, pos, ◌<ℤ◌};
+ghost use Rattle.poly_specs.specs.Lists.{IsAmong};
+ghost use Rattle.poly_specs.specs.Fractions.{Fraction, IsFraction, SameFraction, DifferAtMost, zero_fraction};
+ghost use Rattle.poly_specs.specs.Rows.{Row, Point, Holds, SamePoint, AllHold, AllWide, SomeValueHolds, SomeValuesHold};
+ghost use Rattle.poly_specs.specs.Elimination.{KeepsAmong, eliminated, eliminated_each, columns_down};
+ghost use Rattle.poly_specs.specs.Picks.{IsInterval, IsPick};
+
+/// Equal points satisfy the same rows.
+pub fn equal_points()
+    ensures { (r : Row) (p q : Point) → pos 0 <ℤ p.den → pos 0 <ℤ q.den → SamePoint p q → Holds r p → Holds r q }
+{}
+
+/// Plain elimination of a column is projection: it holds exactly where some value of the column makes the rows hold.
+pub fn column_is_projected()
+    ensures { (x w : ℕ) (rows : List Row) (p : Point) → x < w → AllWide w rows → length p.num ≡ w → pos 0 <ℤ p.den →
+        AllHold (eliminated x rows) p ↔ SomeValueHolds x rows p }
+{}
+
+/// The same of all columns from one on.
+pub fn columns_are_projected()
+    ensures { (first n : ℕ) (rows : List Row) (p : Point) → AllWide (first + n) rows → length p.num ≡ first + n → pos 0 <ℤ p.den →
+        AllHold (eliminated_each (columns_down first n) rows) p ↔ SomeValuesHold (first + n) first rows p }
+{}
+
+/// Rows that are among others stay so under plain elimination, and so do the numbers that it forms.
+pub fn fewer_rows()
+    ensures { (columns : List ℕ) (rows more : List Row) → IsAmong rows more → KeepsAmong columns rows more }
+{}
+
+/// A tolerance of 0 asks for equality.
+pub fn no_tolerance()
+    ensures { (v x : Fraction) → DifferAtMost zero_fraction v x ↔ SameFraction v x }
+{}
+
+/// An interval with something in it has at most one pick.
+pub fn one_pick()
+    ensures { (inside : Fraction → Bool) (z x y : Fraction) → IsInterval (λ v. IsTrue (inside v)) → IsFraction z → IsTrue (inside z) →
+        IsPick (λ v. IsTrue (inside v)) x → IsPick (λ v. IsTrue (inside v)) y → SameFraction x y }
+{}
+
+/// The pick of an interval with something in it is in it.
+pub fn pick_is_inside()
+    ensures { (inside : Fraction → Bool) (z x : Fraction) → IsInterval (λ v. IsTrue (inside v)) → IsFraction z → IsTrue (inside z) →
+        IsPick (λ v. IsTrue (inside v)) x → IsTrue (inside x) }
+{}

@@ -1,0 +1,6 @@
+pub mod RunLemmas
+pub mod PassesLemmas
+pub mod StageLemmas
+pub mod EndLemmas
+pub mod SampleLemmas
+pub mod WorkedRow

@@ -1,0 +1,14 @@
+pub mod Automaton
+pub mod WellFormed
+pub mod Logs
+pub mod Runs
+pub mod Ends
+pub mod Stages
+pub mod Passes
+pub mod Verdicts
+pub mod Histories
+pub mod FirstRun
+pub mod RunPasses
+pub mod Outcomes
+pub mod Sessions
+pub mod Worlds
