@@ -1,0 +1,4 @@
+pub mod Names
+pub mod Models
+pub mod Rows
+pub mod Report

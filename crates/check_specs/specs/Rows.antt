@@ -1,0 +1,74 @@
+-- The lines of a log that are read so far: a header, and rows of a time and one value.
+use Rattle.std.specs.Prelude.{ℕ, ◌+◌, ◌-◌, ◌*◌, ◌^◌, List, [], ◌∷◌, ◌++◌, length, take, drop, Bool, false, ◌&&◌, ◌==◌, nat_le, if◌then◌else◌, ℤ, pos, neg_ℤ, Option, Some, None, position, codes}
+use Rattle.std.specs.List.{list_all}
+use Rattle.std.specs.Str.Parse.{digits_value}
+use Rattle.poly_specs.specs.Fractions.{Fraction, opposite}
+use Rattle.poly_specs.specs.Arithmetic.{lowest}
+use Rattle.check_specs.specs.Names.{is_digit}
+
+-- ---- numbers
+
+-- one digit or more
+abbrev pub are_digits : List ℕ → Bool
+are_digits bytes = nat_le 1 (length bytes) && list_all is_digit bytes
+
+-- digits, as a whole number
+abbrev pub whole_number : List ℕ → Option Fraction
+whole_number digits =
+    if are_digits digits && nat_le (length digits) 9 then Some (record { num = pos (digits_value 10 digits); den = pos 1 }) else None
+
+-- digits before a point, and digits after it
+abbrev pub pointed_number : List ℕ → List ℕ → Option Fraction
+pointed_number digits decimals =
+    if are_digits digits && are_digits decimals && nat_le (length digits + length decimals) 9
+    then Some (lowest (record { num = pos (digits_value 10 digits * 10 ^ length decimals + digits_value 10 decimals); den = pos (10 ^ length decimals) }))
+    else None
+
+-- the pieces before and after the first byte of this value
+pub record Pieces : Type 0 where
+  pub before : List ℕ
+  pub after : List ℕ
+
+abbrev pub pieces_at : List ℕ → ℕ → Pieces
+pieces_at bytes i = record { before = take i bytes; after = drop (i + 1) bytes }
+
+abbrev pub unsigned_at : List ℕ → Option ℕ → Option Fraction
+unsigned_at bytes None = whole_number bytes
+unsigned_at bytes (Some i) = pointed_number (take i bytes) (drop (i + 1) bytes)
+
+-- digits with at most one point between them, nine digits at most
+abbrev pub unsigned_number : List ℕ → Option Fraction
+unsigned_number bytes = unsigned_at bytes (position (λ b. b == 46) bytes)
+
+abbrev pub negated : Option Fraction → Option Fraction
+negated None = None
+negated (Some x) = Some (opposite x)
+
+-- the same with a `-` before it, or none
+abbrev pub number_of : List ℕ → Option Fraction
+number_of [] = None
+number_of (b ∷ bytes) = if b == 45 then negated (unsigned_number bytes) else unsigned_number (b ∷ bytes)
+
+-- ---- rows
+
+-- a time and a value
+pub record Row : Type 0 where
+  pub time : Fraction
+  pub value : Fraction
+
+abbrev pub both : Option Fraction → Option Fraction → Option Row
+both (Some t) (Some v) = Some (record { time = t; value = v })
+both (Some t) None = None
+both None v = None
+
+abbrev pub row_at : List ℕ → Option ℕ → Option Row
+row_at line None = None
+row_at line (Some i) = both (number_of (take i line)) (number_of (drop (i + 1) line))
+
+-- `TIME,VALUE`
+abbrev pub row_of : List ℕ → Option Row
+row_of line = row_at line (position (λ b. b == 44) line)
+
+-- `time,x`, where x is the variable
+abbrev pub header_of : List ℕ → List ℕ
+header_of variable = codes "time," ++ variable

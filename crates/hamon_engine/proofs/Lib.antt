@@ -1,0 +1,3 @@
+pub mod Splits
+pub mod Numerals
+pub mod ModelTexts
