@@ -1,17 +1,17 @@
 -- Lowest terms: they are the same fraction, no larger, and alike for equal fractions alone.
-use Rattle.std.proofs.Common.{◌≡◌, ◌↔◌, ℕ, zero, suc, ◌+◌, ◌*◌, ◌/◌, ◌<◌, ◌≤◌, refl, sym, ap, ap₂, ◌∙◌, subst, arith, ℤ, pos, negsuc, ◌+ℤ◌, ◌-ℤ◌, ◌*ℤ◌, ◌<ℤ◌, neg_ℤ, unsigned_abs}
-use Rattle.std.proofs.Math.Nat.{dvd-mul_left, dvd_antisymm, mul_comm}
+use Rattle.std.proofs.Common.{◌≡◌, ◌↔◌, ℕ, zero, suc, ◌*◌, ◌/◌, ◌^◌, ◌<◌, ◌≤◌, refl, sym, ap, ap₂, ◌∙◌, subst, arith, ℤ, pos, negsuc, ◌+ℤ◌, ◌-ℤ◌, ◌*ℤ◌, ◌<ℤ◌, neg_ℤ, unsigned_abs}
+use Rattle.std.proofs.Math.Nat.{dvd-mul_left, dvd_antisymm, mul_comm, zero-div, mul-div_cancel'}
 use Rattle.std.proofs.lemmas.Int.{ints, unsigned_abs-mul}
-use Rattle.std.specs.Int.{IsGcd, ◌∣◌}
+use Rattle.std.specs.Int.{◌∣◌}
 use Rattle.std.specs.Prelude.{int_div}
 use Rattle.poly_specs.proofs.CombinationLemmas.{gcd-IsGcd, exact, positive}
 use Rattle.poly_specs.proofs.FractionLemmas.{same-trans}
 use Rattle.poly_specs.proofs.GcdLemmas.{gcd-positive, gcd-parts, gcd-swap, dvd-coprime}
-use Rattle.poly_specs.proofs.IntLemmas.{products, mul_assoc_int, mul_comm_int, same_cancel, product_positive}
-use Rattle.poly_specs.specs.Arithmetic.{lowest, IsKept}
+use Rattle.poly_specs.proofs.IntLemmas.{products, mul_add, neg_mul, mul_assoc_int, mul_comm_int, same_cancel, product_positive}
+use Rattle.poly_specs.specs.Arithmetic.{lowest, left_factor, right_factor, least_sum, crossed_num, crossed_den, IsKept}
 use Rattle.poly_specs.specs.Bits.{FitsBits}
 use Rattle.poly_specs.specs.Elimination.{gcd}
-use Rattle.poly_specs.specs.Fractions.{Fraction, IsFraction, SameFraction}
+use Rattle.poly_specs.specs.Fractions.{Fraction, IsFraction, SameFraction, sum_of, product_of, difference, opposite}
 
 -- the greatest common divisor of the two numbers
 abbrev pub shared : Fraction → ℕ
@@ -105,3 +105,122 @@ lowest-unique x y hx hy = (
 
 pub lowest-stays : (x : Fraction) → IsFraction x → lowest (lowest x) ≡ lowest x
 lowest-stays x h = same-lowest (lowest x) x (lowest-IsFraction x h) h (lowest-same x)
+
+pub lowest-IsKept : (x : Fraction) → IsFraction x → FitsBits x.num → FitsBits x.den → IsKept (lowest x)
+lowest-IsKept x h n d =
+    let small = lowest-no_larger x h in
+    record {
+      positive = lowest-IsFraction x h;
+      lowest_terms = lowest-stays x h;
+      num_fits = omega (arith, small.0, n);
+      den_fits = omega (arith, small.1, d);
+    }
+
+-- ---- the opposite
+
+unsigned_abs-neg : (z : ℤ) → unsigned_abs (neg_ℤ z) ≡ unsigned_abs z
+unsigned_abs-neg (pos zero) = refl
+unsigned_abs-neg (pos (suc n)) = refl
+unsigned_abs-neg (negsuc n) = refl
+
+int_div-neg : (z : ℤ) (g : ℕ) → int_div (neg_ℤ z) (pos g) ≡ neg_ℤ (int_div z (pos g))
+int_div-neg (pos zero) g = rw (zero-div g) refl
+int_div-neg (pos (suc n)) g = refl
+int_div-neg (negsuc n) g = twice (suc n / g)
+  where
+    twice : (m : ℕ) → pos m ≡ neg_ℤ (neg_ℤ (pos m))
+    twice zero = refl
+    twice (suc m) = refl
+
+pub lowest-opposite : (x : Fraction) → lowest (opposite x) ≡ opposite (lowest x)
+lowest-opposite x =
+    let e = unsigned_abs-neg x.num in
+    ap (λ (n : ℕ). record { num = int_div (neg_ℤ x.num) (pos (gcd n (unsigned_abs x.den))); den = int_div x.den (pos (gcd n (unsigned_abs x.den))) }) e
+    ∙ ap (λ (n : ℤ). record { num = n; den = (lowest x).den }) (int_div-neg x.num (shared x))
+
+pub opposite-IsKept : (x : Fraction) → IsKept x → IsKept (opposite x)
+opposite-IsKept x h = record {
+  positive = h.positive;
+  lowest_terms = lowest-opposite x ∙ ap opposite h.lowest_terms;
+  num_fits = subst (λ n. n < 2 ^ 127) (sym (unsigned_abs-neg x.num)) h.num_fits;
+  den_fits = h.den_fits;
+}
+
+pub sum-opposite : (x y : Fraction) → sum_of x (opposite y) ≡ difference x y
+sum-opposite x y = ap (λ (n : ℤ). record { num = n; den = x.den *ℤ y.den }) (minus (x.num *ℤ y.den) y.num x.den)
+  where
+    minus : (a c b : ℤ) → a +ℤ neg_ℤ c *ℤ b ≡ a -ℤ c *ℤ b
+    minus a c b = rw (neg_mul c b) (omega (arith, ints))
+
+-- ---- the sum over the least common multiple of the denominators
+
+whole_part : (g : ℕ) (d : ℤ) → pos 0 <ℤ d → g ∣ unsigned_abs d → pos g *ℤ pos (unsigned_abs d / g) ≡ d
+whole_part g d h e = ap (λ (n : ℕ). pos n) (mul-div_cancel' g e) ∙ sym (positive d h)
+
+left-whole : (x y : Fraction) → IsFraction y → pos (gcd (unsigned_abs x.den) (unsigned_abs y.den)) *ℤ pos (left_factor x y) ≡ y.den
+left-whole x y h = whole_part _ y.den h (gcd-IsGcd (unsigned_abs x.den) (unsigned_abs y.den)).1
+
+right-whole : (x y : Fraction) → IsFraction x → pos (gcd (unsigned_abs x.den) (unsigned_abs y.den)) *ℤ pos (right_factor x y) ≡ x.den
+right-whole x y h = whole_part _ x.den h (gcd-IsGcd (unsigned_abs x.den) (unsigned_abs y.den)).0
+
+least_sum-same : (x y : Fraction) → IsFraction x → IsFraction y → SameFraction (least_sum x y) (sum_of x y)
+least_sum-same x y hx hy =
+    let g : ℤ = pos (gcd (unsigned_abs x.den) (unsigned_abs y.den)) in
+    scaled-same g (least_sum x y) (sum_of x y)
+    (num g x.num (pos (left_factor x y)) y.num (pos (right_factor x y)) y.den x.den (left-whole x y hy) (right-whole x y hx))
+    (den g x.den (pos (left_factor x y)) y.den (left-whole x y hy))
+  where
+    num : (g a p c q d b : ℤ) → g *ℤ p ≡ d → g *ℤ q ≡ b → g *ℤ (a *ℤ p +ℤ c *ℤ q) ≡ a *ℤ d +ℤ c *ℤ b
+    num g a p c q d b e f = rw (← e, ← f, mul_add g (a *ℤ p) (c *ℤ q)) (omega (arith, products))
+
+    den : (g b p d : ℤ) → g *ℤ p ≡ d → g *ℤ (b *ℤ p) ≡ b *ℤ d
+    den g b p d e = rw (← e) (omega (arith, products))
+
+pub least_sum-IsFraction : (x y : Fraction) → IsFraction x → IsFraction y → IsFraction (least_sum x y)
+least_sum-IsFraction x y hx hy =
+    let g = gcd-positive (unsigned_abs x.den) (unsigned_abs y.den) (size-positive y.den hy) in
+    product_positive x.den (pos (left_factor x y)) hx
+    (positive_part (pos (gcd (unsigned_abs x.den) (unsigned_abs y.den))) (pos (left_factor x y)) y.den (omega (arith, ints, g)) hy (left-whole x y hy))
+
+pub lowest-least_sum : (x y : Fraction) → IsFraction x → IsFraction y → lowest (least_sum x y) ≡ lowest (sum_of x y)
+lowest-least_sum x y hx hy =
+    same-lowest (least_sum x y) (sum_of x y) (least_sum-IsFraction x y hx hy) (product_positive x.den y.den hx hy) (least_sum-same x y hx hy)
+
+-- ---- the product of the parts that are left crosswise
+
+-- those parts, multiplied
+abbrev pub crossed_product : Fraction → Fraction → Fraction
+crossed_product x y = record { num = crossed_num x y *ℤ crossed_num y x; den = crossed_den x y *ℤ crossed_den y x }
+
+crossed_num-whole : (x y : Fraction) → pos (gcd (unsigned_abs x.num) (unsigned_abs y.den)) *ℤ crossed_num x y ≡ x.num
+crossed_num-whole x y = exact _ x.num (gcd-IsGcd (unsigned_abs x.num) (unsigned_abs y.den)).0
+
+crossed_den-whole : (x y : Fraction) → pos (gcd (unsigned_abs y.num) (unsigned_abs x.den)) *ℤ crossed_den x y ≡ x.den
+crossed_den-whole x y = exact _ x.den (gcd-IsGcd (unsigned_abs y.num) (unsigned_abs x.den)).1
+
+crossed_den-positive : (x y : Fraction) → IsFraction x → pos 0 <ℤ crossed_den x y
+crossed_den-positive x y h =
+    let g = gcd-positive (unsigned_abs y.num) (unsigned_abs x.den) (size-positive x.den h) in
+    positive_part (pos (gcd (unsigned_abs y.num) (unsigned_abs x.den))) (crossed_den x y) x.den (omega (arith, ints, g)) h (crossed_den-whole x y)
+
+pub crossed_product-IsFraction : (x y : Fraction) → IsFraction x → IsFraction y → IsFraction (crossed_product x y)
+crossed_product-IsFraction x y hx hy =
+    product_positive (crossed_den x y) (crossed_den y x) (crossed_den-positive x y hx) (crossed_den-positive y x hy)
+
+product_whole : (g h t r a c : ℤ) → g *ℤ t ≡ a → h *ℤ r ≡ c → (g *ℤ h) *ℤ (t *ℤ r) ≡ a *ℤ c
+product_whole g h t r a c e f =
+    let turned : h *ℤ (t *ℤ r) ≡ t *ℤ (h *ℤ r) = omega (arith, products) in
+    mul_assoc_int g h (t *ℤ r) ∙ ap (λ z. g *ℤ z) (turned ∙ ap (λ z. t *ℤ z) f) ∙ sym (mul_assoc_int g t c) ∙ ap (λ z. z *ℤ c) e
+
+crossed_product-same : (x y : Fraction) → SameFraction (crossed_product x y) (product_of x y)
+crossed_product-same x y =
+    let g : ℤ = pos (gcd (unsigned_abs x.num) (unsigned_abs y.den)) in
+    let h : ℤ = pos (gcd (unsigned_abs y.num) (unsigned_abs x.den)) in
+    scaled-same (g *ℤ h) (crossed_product x y) (product_of x y)
+    (product_whole g h (crossed_num x y) (crossed_num y x) x.num y.num (crossed_num-whole x y) (crossed_num-whole y x))
+    (ap (λ z. z *ℤ (crossed_den x y *ℤ crossed_den y x)) (mul_comm_int g h)
+    ∙ product_whole h g (crossed_den x y) (crossed_den y x) x.den y.den (crossed_den-whole x y) (crossed_den-whole y x))
+
+pub lowest-crossed_product : (x y : Fraction) → IsFraction x → IsFraction y → lowest (crossed_product x y) ≡ lowest (product_of x y)
+lowest-crossed_product x y hx hy =
+    same-lowest (crossed_product x y) (product_of x y) (crossed_product-IsFraction x y hx hy) (product_positive x.den y.den hx hy) (crossed_product-same x y)
