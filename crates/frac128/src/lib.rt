@@ -140,3 +140,75 @@ impl Frac {
         product_over(num, other_num, den, other_den)
     }
 }
+
+#[cfg(test)]
+mod tests {
+    use super::*;
+    use std::hash::{FoldHasher, Hash, Hasher};
+
+    const MAX: i128 = i128::MAX;
+
+    #[test]
+    fn adds(rt: HostRuntime) {
+        for (x, y, want) in [
+            (Frac::make(1, 6), Frac::make(1, 10), Some(Frac::make(4, 15))),
+            (Frac::make(1, 2), Frac::make(-1, 2), Some(Frac::make(0, 1))),
+            (Frac::make(MAX, 1), Frac::make(1, 1), None),
+        ] {
+            assert_eq!(rt; x.add(&y), want);
+        }
+    }
+
+    #[test]
+    fn subtracts(rt: HostRuntime) {
+        for (x, y, want) in [
+            (Frac::make(1, 6), Frac::make(1, 10), Some(Frac::make(1, 15))),
+            (Frac::make(-MAX, 1), Frac::make(1, 1), None),
+        ] {
+            assert_eq!(rt; x.sub(&y), want);
+        }
+        assert_eq!(rt; Frac::make(3, 6).neg(), Frac::make(-1, 2));
+    }
+
+    #[test]
+    fn multiplies(rt: HostRuntime) {
+        for (x, y, want) in [
+            (Frac::make(2, 3), Frac::make(-9, 4), Some(Frac::make(-3, 2))),
+            // The plain numerator, 4 * MAX, would pass.
+            (
+                Frac::make(MAX, 2),
+                Frac::make(4, MAX),
+                Some(Frac::make(2, 1)),
+            ),
+            (Frac::make(MAX, 1), Frac::make(2, 1), None),
+        ] {
+            assert_eq!(rt; x.mul(&y), want);
+        }
+    }
+
+    #[test]
+    fn compares(rt: HostRuntime) {
+        for (x, y, want) in [
+            (Frac::make(1, 2), Frac::make(2, 4), Ordering::Equal),
+            (Frac::make(-1, 2), Frac::make(-1, 3), Ordering::Less),
+            (Frac::make(1, 3), Frac::make(-1, 2), Ordering::Greater),
+            // 1 - 1 / MAX and 1 - 1 / (MAX - 1)
+            (
+                Frac::make(MAX - 1, MAX),
+                Frac::make(MAX - 2, MAX - 1),
+                Ordering::Greater,
+            ),
+        ] {
+            assert_eq!(rt; x.cmp(&y), want);
+        }
+    }
+
+    #[test]
+    fn equal_fractions_hash_alike(rt: HostRuntime) {
+        let mut first = FoldHasher::default();
+        let mut second = FoldHasher::default();
+        Frac::make(1, 2).hash(&mut first);
+        Frac::make(2, 4).hash(&mut second);
+        assert_eq!(rt; first.finish(), second.finish());
+    }
+}
