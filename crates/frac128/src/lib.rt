@@ -10,7 +10,7 @@ ghost use Rattle.std.specs.Prelude.{◌≡◌, ◌↔◌, pos, ◌<ℤ◌, SomeI
 ghost use Rattle.poly_specs.specs.Fractions.{sum_of, difference, product_of, opposite, order_of};
 ghost use Rattle.poly_specs.specs.Bits.{FitsBits, NonePasses};
 ghost use Rattle.poly_specs.specs.Arithmetic.{IsKept, lowest, sum_numbers, product_numbers};
-ghost use Rattle.frac128.specs.Parts.{CanMake};
+ghost use Rattle.frac128.specs.Parts.{Makes};
 
 use crate::numbers::{product_over, shared_factor, sum_over, without_factor};
 use crate::order::compare_signed;
@@ -20,7 +20,7 @@ use std::marker::Model;
 /// A fraction in lowest terms over a positive denominator.
 ///
 /// Neither number passes 128 bits: their absolute values are at most `2^127 - 1`, so that the
-/// least value of the type never appears.
+/// least value of the type never appears. Equal fractions have equal fields.
 #[derive(Clone, Copy, Debug, PartialEq, Eq, Hash)]
 pub struct Frac {
     num: i128,
@@ -41,7 +41,7 @@ impl Model for Frac {
 }
 
 impl Frac {
-    /// The fraction `num / den`.
+    /// The fraction `num / den`, brought to lowest terms.
     pub fn make(num: i128, den: i128) -> Frac
         requires positive { pos 0 <ℤ den }
         requires kept { FitsBits num }
@@ -118,7 +118,7 @@ impl Frac {
     /// The numbers of the sum over the least common multiple of the denominators.
     fn sum_parts(&self, other: &Frac) -> Option<(i128, i128)>
         ensures kept { IsSome result ↔ NonePasses (sum_numbers self.now other.now) }
-        ensures sum { IfSome result (λ p. CanMake p.0 p.1 (sum_of self.now other.now)) }
+        ensures sum { IfSome result (λ p. Makes p.0 p.1 (sum_of self.now other.now)) }
     {
         let shared = shared_factor(self.den, other.den);
         let left_factor = without_factor(other.den, shared);
@@ -129,7 +129,7 @@ impl Frac {
     /// The numbers of the product, each numerator divided by what it shares with the other denominator.
     fn product_parts(&self, other: &Frac) -> Option<(i128, i128)>
         ensures kept { IsSome result ↔ NonePasses (product_numbers self.now other.now) }
-        ensures product { IfSome result (λ p. CanMake p.0 p.1 (product_of self.now other.now)) }
+        ensures product { IfSome result (λ p. Makes p.0 p.1 (product_of self.now other.now)) }
     {
         let shared = shared_factor(self.num, other.den);
         let shared_back = shared_factor(other.num, self.den);

@@ -1,9 +1,8 @@
 -- Lowest terms: they are the same fraction, no larger, and alike for equal fractions alone.
-use Rattle.std.proofs.Common.{◌≡◌, ◌↔◌, ℕ, zero, suc, ◌*◌, ◌/◌, ◌^◌, ◌<◌, ◌≤◌, refl, sym, ap, ap₂, ◌∙◌, subst, arith, ℤ, pos, negsuc, ◌+ℤ◌, ◌-ℤ◌, ◌*ℤ◌, ◌<ℤ◌, neg_ℤ, unsigned_abs}
-use Rattle.std.proofs.Math.Nat.{dvd-mul_left, dvd_antisymm, mul_comm, zero-div, mul-div_cancel'}
+use Rattle.std.proofs.Common.{◌≡◌, ◌↔◌, ℕ, zero, suc, ◌*◌, ◌/◌, ◌<◌, ◌≤◌, sym, ap, ap₂, ◌∙◌, subst, arith, ℤ, pos, negsuc, ◌+ℤ◌, ◌-ℤ◌, ◌*ℤ◌, ◌<ℤ◌, neg_ℤ, unsigned_abs}
+use Rattle.std.proofs.Math.Nat.{dvd-mul_left, dvd_antisymm, mul_comm, mul-div_cancel'}
 use Rattle.std.proofs.lemmas.Int.{ints, unsigned_abs-mul}
 use Rattle.std.specs.Int.{◌∣◌}
-use Rattle.std.specs.Prelude.{int_div}
 use Rattle.poly_specs.proofs.CombinationLemmas.{gcd-IsGcd, exact, positive}
 use Rattle.poly_specs.proofs.FractionLemmas.{same-trans}
 use Rattle.poly_specs.proofs.GcdLemmas.{gcd-positive, gcd-parts, gcd-swap, dvd-coprime}
@@ -116,35 +115,7 @@ lowest-IsKept x h n d =
       den_fits = omega (arith, small.1, d);
     }
 
--- ---- the opposite
-
-unsigned_abs-neg : (z : ℤ) → unsigned_abs (neg_ℤ z) ≡ unsigned_abs z
-unsigned_abs-neg (pos zero) = refl
-unsigned_abs-neg (pos (suc n)) = refl
-unsigned_abs-neg (negsuc n) = refl
-
-int_div-neg : (z : ℤ) (g : ℕ) → int_div (neg_ℤ z) (pos g) ≡ neg_ℤ (int_div z (pos g))
-int_div-neg (pos zero) g = rw (zero-div g) refl
-int_div-neg (pos (suc n)) g = refl
-int_div-neg (negsuc n) g = twice (suc n / g)
-  where
-    twice : (m : ℕ) → pos m ≡ neg_ℤ (neg_ℤ (pos m))
-    twice zero = refl
-    twice (suc m) = refl
-
-pub lowest-opposite : (x : Fraction) → lowest (opposite x) ≡ opposite (lowest x)
-lowest-opposite x =
-    let e = unsigned_abs-neg x.num in
-    ap (λ (n : ℕ). record { num = int_div (neg_ℤ x.num) (pos (gcd n (unsigned_abs x.den))); den = int_div x.den (pos (gcd n (unsigned_abs x.den))) }) e
-    ∙ ap (λ (n : ℤ). record { num = n; den = (lowest x).den }) (int_div-neg x.num (shared x))
-
-pub opposite-IsKept : (x : Fraction) → IsKept x → IsKept (opposite x)
-opposite-IsKept x h = record {
-  positive = h.positive;
-  lowest_terms = lowest-opposite x ∙ ap opposite h.lowest_terms;
-  num_fits = subst (λ n. n < 2 ^ 127) (sym (unsigned_abs-neg x.num)) h.num_fits;
-  den_fits = h.den_fits;
-}
+-- ---- the sum with the opposite
 
 pub sum-opposite : (x y : Fraction) → sum_of x (opposite y) ≡ difference x y
 sum-opposite x y = ap (λ (n : ℤ). record { num = n; den = x.den *ℤ y.den }) (minus (x.num *ℤ y.den) y.num x.den)

@@ -9,17 +9,26 @@ use Rattle.poly_specs.specs.Elimination.{gcd}
 use Rattle.frac128.proofs.numbers.shared_factor.Goals as goal
 
 module _ (c : goal.After-greatest_divisor) where
+  left : c.unsigned_abs.result ≡ unsigned_abs c.args.a
+  left = omega (arith, ints)
+
+  right : c.unsigned_abs-2.result ≡ unsigned_abs c.args.b
+  right = omega (arith, ints)
+
   is : c.greatest_divisor.result ≡ gcd (unsigned_abs c.args.a) (unsigned_abs c.args.b)
-  is = let a : c.unsigned_abs.result ≡ unsigned_abs c.args.a = omega (arith, ints) in let b : c.unsigned_abs-2.result ≡ unsigned_abs c.args.b = omega (arith, ints) in rw (a, b) at c.greatest_divisor.ensures
+  is = rw (left, right) at c.greatest_divisor.ensures
 
   some : 0 < unsigned_abs c.args.b
   some = size-positive c.args.b c.requires.positive
+
+  few : unsigned_abs c.args.b < 2 ^ 127
+  few = omega (arith, ints)
 
   low : 0 < gcd (unsigned_abs c.args.a) (unsigned_abs c.args.b)
   low = gcd-positive (unsigned_abs c.args.a) (unsigned_abs c.args.b) some
 
   high : gcd (unsigned_abs c.args.a) (unsigned_abs c.args.b) < 2 ^ 127
-  high = let few : unsigned_abs c.args.b < 2 ^ 127 = omega (arith, ints) in omega (arith, le_of_dvd some (gcd-IsGcd (unsigned_abs c.args.a) (unsigned_abs c.args.b)).1)
+  high = omega (arith, few, le_of_dvd some (gcd-IsGcd (unsigned_abs c.args.a) (unsigned_abs c.args.b)).1)
 
 pub overflow_cast-result : goal.overflow_cast-result
 overflow_cast-result c = rw (is c) (let h = high c in omega (arith, ints, h))
