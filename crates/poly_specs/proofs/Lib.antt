@@ -8,3 +8,5 @@ pub mod DownLemmas
 pub mod FractionLemmas
 pub mod PickLemmas
 pub mod PickExamples
+pub mod GcdLemmas
+pub mod LowestLemmas
