@@ -1,6 +1,7 @@
 -- What the sources, sinks and shelves in memory hold, and what a call makes of it.
-use Rattle.std.specs.Prelude.{ℕ, ◌+◌, ◌-◌, ◌^◌, min, List, Option, find, bytes_eq, Contains, String, string_bytes, Vec}
+use Rattle.std.specs.Prelude.{ℕ, List, Option, find, bytes_eq, Contains, String, string_bytes, Vec}
 use Rattle.std.specs.declared.alloc.Global.{Global}
+use Rattle.mon_io.specs.Faults.{one_more}
 use Rattle.std.specs.Option.{option_map}
 
 -- the numbers of the calls that fail, counted from 1; how many calls were made, and how many failed
@@ -12,10 +13,6 @@ pub record Schedule : Type 0 where
 -- none was made
 abbrev pub unused : List ℕ → Schedule
 unused fails = record { fails = fails; made = 0; faults = 0 }
-
--- the next number, up to the last that a count of 64 bits has
-abbrev pub one_more : ℕ → ℕ
-one_more n = min (n + 1) (2 ^ 64 - 1)
 
 -- the next call is one of those that fail
 abbrev pub IsToFail : Schedule → Type 0

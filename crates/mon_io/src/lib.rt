@@ -7,6 +7,7 @@ mod memory_shelf;
 mod shelf;
 mod sink;
 mod source;
+mod standard;
 mod sure;
 
 pub use memory::{MemSink, MemSource};
@@ -14,4 +15,5 @@ pub use memory_shelf::MemShelf;
 pub use shelf::{Shelf, ShelfFault};
 pub use sink::{Sink, SinkFault};
 pub use source::{Failed, Source};
+pub use standard::{FileShelf, StdSink, StdSource};
 pub use sure::{SureSink, SureSource};
