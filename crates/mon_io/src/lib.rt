@@ -17,3 +17,6 @@ pub use sink::{Sink, SinkFault};
 pub use source::{Failed, Source};
 pub use standard::{FileShelf, StdSink, StdSource};
 pub use sure::{SureSink, SureSource};
+
+#[cfg(test)]
+mod tests;
