@@ -1,7 +1,7 @@
 // A source, a sink and a shelf over the readers, writers and files of std.
-ghost use Rattle.std.specs.Prelude.{◌≡◌, ◌<◌, ◌≤◌, ℕ, List, None, length, vec_len, IfOk, IfSome, OnErr, IsErrOf, Err};
+ghost use Rattle.std.specs.Prelude.{◌≡◌, ◌<◌, ◌≤◌, ℕ, List, None, length, take, vec_len, IfOk, IfSome, IsNone, OnErr, IsErrOf, Err};
 ghost use Rattle.std.specs.Io.{ReadsAtMost, WritesAtMost};
-ghost use Rattle.std.specs.Io.KnownBytes.{ReadConsumes, WriteAppends};
+ghost use Rattle.std.specs.Io.KnownBytes.{ReadConsumes, WriteAppends, Appends};
 ghost use Rattle.mon_io.specs.Faults.{Rose, one_more, CountsErr};
 
 use crate::{Failed, Shelf, ShelfFault, Sink, SinkFault, Source};
@@ -92,6 +92,7 @@ impl<W: Write> Sink for StdSink<W> {
 fn write_through<W: Write>(inner: &mut W, piece: &[u8]) -> io::Result<usize>
     ensures bound { WritesAtMost result piece.now }
     ensures some { IfOk result (λ n. 0 < length piece.now → 0 < n) }
+    ensures bytes { IfOk result (λ n. Appends (W.contents inner.old) (W.contents inner.new) (take n piece.now)) }
 {
     let count = inner.write(piece)?;
     if count == 0 && !piece.is_empty() {
@@ -132,9 +133,9 @@ impl<'a, R: Files> Shelf for FileShelf<'a, R> {
         ensures counted { let faults = ⟦<Self as Shelf>⟧.faults in IsErrOf result ShelfFault.Failed → faults self.new ≡ one_more (faults self.old) }
         ensures kept { let faults = ⟦<Self as Shelf>⟧.faults in ¬ IsErrOf result ShelfFault.Failed → faults self.new ≡ faults self.old }
     {
-        match first_bytes(self.rt, alloc, name, most) {
-            Ok(bytes) if bytes.len() <= most => Ok(bytes),
-            Ok(_) => Err(ShelfFault::Long),
+        match open_and_read(self.rt, alloc, name, most) {
+            Ok(Some(bytes)) => Ok(bytes),
+            Ok(None) => Err(ShelfFault::Long),
             Err(error) if error.kind() == ErrorKind::OutOfMemory => Err(ShelfFault::Memory),
             Err(_) => {
                 self.faults = self.faults.saturating_add(1);
@@ -144,10 +145,29 @@ impl<'a, R: Files> Shelf for FileShelf<'a, R> {
     }
 }
 
-// All of a file, or one byte more than `most`.
-fn first_bytes<R: Files>(rt: &R, alloc: Global, name: &str, most: usize) -> io::Result<Vec<u8>> {
+fn open_and_read<R: Files>(
+    rt: &R,
+    alloc: Global,
+    name: &str,
+    most: usize,
+) -> io::Result<Option<Vec<u8>>>
+    ensures most { IfOk result (λ text. IfSome text (λ bytes. vec_len bytes ≤ most)) }
+{
+    let file = File::open(rt, name)?;
+    read_whole(file, alloc, most)
+}
+
+// All that the reader gives, or `None` where that is more than `most` bytes.
+fn read_whole<F: Read + Drop>(reader: F, alloc: Global, most: usize) -> io::Result<Option<Vec<u8>>>
+    ensures most { IfOk result (λ text. IfSome text (λ bytes. vec_len bytes ≤ most)) }
+    ensures whole { IfOk result (λ text. IfSome text (λ bytes. IfSome (F.remaining reader) (λ all. bytes.items ≡ all))) }
+    ensures long { IfOk result (λ text. IsNone text → IfSome (F.remaining reader) (λ all. most < length all)) }
+{
     let limit = (most as u64).saturating_add(1);
     let mut bytes = Vec::new(alloc);
-    File::open(rt, name)?.take(limit).read_to_end(&mut bytes)?;
-    Ok(bytes)
+    reader.take(limit).read_to_end(&mut bytes)?;
+    if bytes.len() > most {
+        return Ok(None);
+    }
+    Ok(Some(bytes))
 }
