@@ -14,9 +14,9 @@ use Rattle.poly_specs.specs.Lists.{In, number_at}
 use Rattle.poly_specs.specs.Fractions.{Fraction, IsFraction, SameFraction, AtMost, DifferAtMost, difference, opposite}
 use Rattle.poly_specs.specs.Arithmetic.{least_sum, left_factor, right_factor}
 use Rattle.poly_specs.specs.Elimination.{gcd}
-use Rattle.poly_specs.specs.Rows.{Point, Row, over, Holds, AllHold}
+use Rattle.poly_specs.specs.Rows.{Point, Row, over, coordinate, Holds, AllHold}
 use Rattle.run_specs.specs.Automaton.{Automaton, width, tolerance_at}
-use Rattle.run_specs.specs.Logs.{IsPassing, cell_at, coordinate}
+use Rattle.run_specs.specs.Logs.{IsPassing, cell_at}
 use Rattle.run_specs.specs.Stages.{row_of, at_most, at_least, near_rows, seen_rows, below, sample_rows}
 
 -- ---- rows of one column
