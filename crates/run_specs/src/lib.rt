@@ -15,6 +15,8 @@ ghost use Rattle.run_specs.specs.Ends.{SomeLegEnds, SomeJumpEnds};
 ghost use Rattle.run_specs.specs.Passes.{LogPasses, OpeningPasses};
 ghost use Rattle.run_specs.specs.Verdicts.{IsLawful, AreLawful, NoOverflow};
 
+pub mod histories;
+
 /// The reply to a sample.
 #[derive(Clone, Copy, Debug, PartialEq, Eq)]
 pub enum Verdict {
