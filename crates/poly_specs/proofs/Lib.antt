@@ -7,4 +7,5 @@ pub mod EliminationLemmas
 pub mod DownLemmas
 pub mod FractionLemmas
 pub mod PickLemmas
+pub mod PickExistence
 pub mod PickExamples

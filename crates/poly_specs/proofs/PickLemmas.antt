@@ -7,7 +7,7 @@ use Rattle.poly_specs.specs.Fractions.{Fraction, IsFraction, SameFraction, AtMos
 use Rattle.poly_specs.specs.Sets.{IsInterval}
 use Rattle.poly_specs.specs.Picks.{IsNearer, IsNearestInteger, HasNoInteger, HasEnds, AreEnds, IsEndPick, IsPick, middle}
 
-zero_is : IsFraction zero_fraction
+pub zero_is : IsFraction zero_fraction
 zero_is = record { lt = tt }
 
 -- ---- integers
@@ -35,7 +35,7 @@ no_further_below x y hx hy n m px py = go x.num y.num (omega (arith, ints, px)) 
         opposite (pos (suc n)) h = absurd (omega (arith, ints))
         opposite (negsuc n) h = refl
 
-no_number : (x : Fraction) → IsNearer x zero_fraction → x.num ≡ pos 0
+pub no_number : (x : Fraction) → IsNearer x zero_fraction → x.num ≡ pos 0
 no_number x n = go x.num n
   where
     go : (a : ℤ) → (pos (unsigned_abs a) *ℤ pos 1) ≤ℤ (pos 0 *ℤ x.den) → a ≡ pos 0

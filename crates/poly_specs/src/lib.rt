@@ -9,6 +9,8 @@ ghost use Rattle.poly_specs.specs.Elimination.{KeepsAmong, eliminated, eliminate
 ghost use Rattle.poly_specs.specs.Sets.{IsInterval};
 ghost use Rattle.poly_specs.specs.Picks.{IsPick};
 
+pub mod picks;
+
 /// Equal points satisfy the same rows.
 pub fn equal_points()
     ensures { (r : Row) (p q : Point) → pos 0 <ℤ p.den → pos 0 <ℤ q.den → SamePoint p q → Holds r p → Holds r q }
