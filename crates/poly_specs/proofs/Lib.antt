@@ -6,6 +6,7 @@ pub mod InclusionLemmas
 pub mod EliminationLemmas
 pub mod DownLemmas
 pub mod FractionLemmas
+pub mod ColumnLemmas
 pub mod PickLemmas
 pub mod PickExistence
 pub mod PickExamples

@@ -1,14 +1,14 @@
 -- An interval with something in it, whose ends are fractions or missing, has a pick; that of a closed interval is 0, an integer or what is nearest to 0.
-use Rattle.std.proofs.Common.{◌≡◌, ◌⊎◌, inl, inr, ℕ, zero, suc, ◌+◌, ◌*◌, ◌<◌, ◌≤◌, Bool, true, false, ◌||◌, Option, Some, None, refl, sym, ◌∙◌, ap, subst, arith, ℤ, pos, negsuc, ◌*ℤ◌, ◌≤ℤ◌, ◌<ℤ◌, neg_ℤ, unsigned_abs}
+use Rattle.std.proofs.Common.{◌≡◌, ◌⊎◌, inl, inr, ℕ, zero, suc, ◌*◌, ◌<◌, ◌≤◌, Bool, true, false, ◌||◌, Option, Some, None, refl, ◌∙◌, ap, subst, arith, ℤ, pos, negsuc, ◌*ℤ◌, ◌≤ℤ◌, ◌<ℤ◌, neg_ℤ, unsigned_abs}
 use Rattle.std.specs.Prelude.{IsTrue}
 use Rattle.std.proofs.lemmas.Int.{ints, unsigned_abs-mul}
 use Rattle.std.proofs.lemmas.Bool.{cases_lt}
 use Rattle.poly_specs.proofs.IntLemmas.{mul_le, mul_le_pos, neg_mul}
 use Rattle.poly_specs.proofs.FractionLemmas.{AtMost-trans, Below-AtMost, Below-not, either, AtMost-Below, Below-AtMost_trans, AtMost-same, same-AtMost, middle-den, middle-between}
 use Rattle.poly_specs.proofs.PickLemmas.{zero_is, no_number, member}
-use Rattle.poly_specs.specs.Fractions.{Fraction, IsFraction, SameFraction, AtMost, Below, zero_fraction}
+use Rattle.poly_specs.specs.Fractions.{Fraction, IsFraction, SameFraction, AtMost, zero_fraction}
 use Rattle.poly_specs.specs.Sets.{IsInterval, HasMember, IsLowEnd, IsHighEnd, IsClosedAt}
-use Rattle.poly_specs.specs.Picks.{IsInteger, IsNearer, IsNearestInteger, HasNoInteger, HasEnds, AreEnds, IsEndPick, IsPick, IsClosedPick, middle}
+use Rattle.poly_specs.specs.Picks.{IsNearer, IsNearestInteger, HasNoInteger, HasEnds, AreEnds, IsEndPick, IsPick, IsClosedPick, middle}
 
 -- ---- integers as fractions
 

@@ -1,7 +1,7 @@
 -- Points, rows and systems of rows, over the integers.
 use Rattle.std.specs.Prelude.{◌≡◌, ℕ, Bool, true, false, List, All, length, take, ℤ, pos, ◌+ℤ◌, ◌*ℤ◌, ◌≤ℤ◌, ◌<ℤ◌, slice_set}
-use Rattle.poly_specs.specs.Lists.{number_at, scaled, dot}
-use Rattle.poly_specs.specs.Fractions.{Fraction}
+use Rattle.poly_specs.specs.Lists.{number_at, scaled, dot, In}
+use Rattle.poly_specs.specs.Fractions.{Fraction, SameFraction}
 
 -- a point: an integer for each coordinate, over one positive denominator
 pub record Point : Type 0 where
@@ -85,3 +85,18 @@ pub record IsExtension (w c : ℕ) (rows : List Row) (p q : Point) : Type 0 wher
 -- some fractions in the columns from c on make the system of w columns hold
 abbrev pub SomeValuesHold : ℕ → ℕ → List Row → Point → Type 0
 SomeValuesHold w c rows p = (q : Point) × IsExtension w c rows p q
+
+-- the points agree outside these columns
+abbrev pub SameOutside : List ℕ → Point → Point → Type 0
+SameOutside columns p q = (j : ℕ) → (In j columns → ⊥) → SameFraction (coordinate j p) (coordinate j q)
+
+-- q is a point of the system that agrees with p outside these columns
+pub record IsExtensionIn (columns : List ℕ) (rows : List Row) (p q : Point) : Type 0 where
+  pub positive : pos 0 <ℤ q.den
+  pub sized : length q.num ≡ length p.num
+  pub same : SameOutside columns p q
+  pub holds : AllHold rows q
+
+-- some fractions in these columns make the system hold
+abbrev pub SomeValuesHoldIn : List ℕ → List Row → Point → Type 0
+SomeValuesHoldIn columns rows p = (q : Point) × IsExtensionIn columns rows p q

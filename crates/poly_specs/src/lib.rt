@@ -10,6 +10,7 @@ ghost use Rattle.poly_specs.specs.Sets.{IsInterval};
 ghost use Rattle.poly_specs.specs.Picks.{IsPick};
 
 pub mod picks;
+pub mod projections;
 
 /// Equal points satisfy the same rows.
 pub fn equal_points()
