@@ -4,4 +4,5 @@ pub mod PassesLemmas
 pub mod StageLemmas
 pub mod EndLemmas
 pub mod SampleLemmas
+pub mod SampleEnds
 pub mod WorkedRow
