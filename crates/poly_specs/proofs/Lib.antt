@@ -10,3 +10,5 @@ pub mod ColumnLemmas
 pub mod PickLemmas
 pub mod PickExistence
 pub mod PickExamples
+pub mod GcdLemmas
+pub mod LowestLemmas

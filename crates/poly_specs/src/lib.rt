@@ -1,11 +1,13 @@
 //! The definitions of fractions, rows, their elimination and picks.
 #![tactic(auto)]
 
-ghost use Rattle.std.specs.Prelude.{◌≡◌, ◌↔◌, ℕ, ◌+◌, ◌<◌, Bool, IsTrue, List, length, ℤ, pos, ◌<ℤ◌};
+ghost use Rattle.std.specs.Prelude.{◌≡◌, ◌↔◌, ℕ, ◌+◌, ◌<◌, ◌≤◌, Bool, IsTrue, List, length, ℤ, pos, ◌<ℤ◌, unsigned_abs};
+ghost use Rattle.std.specs.Int.{IsGcd};
 ghost use Rattle.poly_specs.specs.Lists.{IsAmong};
-ghost use Rattle.poly_specs.specs.Fractions.{Fraction, SameFraction, DifferAtMost, zero_fraction};
+ghost use Rattle.poly_specs.specs.Fractions.{Fraction, IsFraction, SameFraction, DifferAtMost, zero_fraction};
 ghost use Rattle.poly_specs.specs.Rows.{Row, Point, Holds, SamePoint, AllHold, AllWide, SomeValueHolds, SomeValuesHold};
-ghost use Rattle.poly_specs.specs.Elimination.{KeepsAmong, eliminated, eliminated_each, columns_down};
+ghost use Rattle.poly_specs.specs.Elimination.{KeepsAmong, gcd, eliminated, eliminated_each, columns_down};
+ghost use Rattle.poly_specs.specs.Arithmetic.{lowest};
 ghost use Rattle.poly_specs.specs.Sets.{IsInterval};
 ghost use Rattle.poly_specs.specs.Picks.{IsPick};
 
@@ -49,4 +51,30 @@ pub fn one_pick()
 pub fn pick_is_inside()
     ensures { (inside : Fraction → Bool) (x : Fraction) → IsInterval (λ v. IsTrue (inside v)) →
         IsPick (λ v. IsTrue (inside v)) x → IsTrue (inside x) }
+{}
+
+/// Euclid's algorithm finds the greatest common divisor.
+pub fn gcd_is_greatest()
+    ensures { (a b : ℕ) → IsGcd a b (gcd a b) }
+{}
+
+/// A fraction in lowest terms is the same fraction.
+pub fn lowest_is_same()
+    ensures { (x : Fraction) → IsFraction x → IsFraction (lowest x) × SameFraction (lowest x) x }
+{}
+
+/// Two fractions are the same exactly where their lowest terms are equal.
+pub fn lowest_is_unique()
+    ensures { (x y : Fraction) → IsFraction x → IsFraction y → (SameFraction x y ↔ (lowest x ≡ lowest y)) }
+{}
+
+/// Neither number is larger in lowest terms.
+pub fn lowest_is_no_larger()
+    ensures { (x : Fraction) → IsFraction x →
+        (unsigned_abs (lowest x).num ≤ unsigned_abs x.num) × (unsigned_abs (lowest x).den ≤ unsigned_abs x.den) }
+{}
+
+/// Lowest terms are in lowest terms.
+pub fn lowest_stays()
+    ensures { (x : Fraction) → IsFraction x → lowest (lowest x) ≡ lowest x }
 {}
