@@ -6,7 +6,9 @@ pub mod InclusionLemmas
 pub mod EliminationLemmas
 pub mod DownLemmas
 pub mod FractionLemmas
+pub mod ColumnLemmas
 pub mod PickLemmas
+pub mod PickExistence
 pub mod PickExamples
 pub mod GcdLemmas
 pub mod LowestLemmas

@@ -33,6 +33,7 @@ none_inside y hy (negsuc n) e a b =
 pub pick_inside : IsPick IsInside (over_two 1)
 pick_inside = record {
   positive = record { lt = tt };
+  some = (over_two 1, record { lt = tt }, (record { lt = tt }, record { lt = tt }));
   kind = inr (
     λ y hy s i. none_inside y hy i.0 i.1 (omega (arith, ints, s.0)) (omega (arith, ints, s.1)),
     (
@@ -56,6 +57,7 @@ pick_inside = record {
 pub pick_up_to_third : IsPick IsUpToThird (over_three 1)
 pick_up_to_third = record {
   positive = record { lt = tt };
+  some = (over_three 1, record { lt = tt }, (record { lt = tt }, record { le = tt }));
   kind = inr (
     λ y hy s i. none_inside y hy i.0 i.1 (omega (arith, ints, s.0)) (omega (arith, ints, s.1, hy)),
     (

@@ -4,9 +4,10 @@ use Rattle.std.proofs.lemmas.Int.{ints}
 use Rattle.poly_specs.proofs.IntLemmas.{neg_mul, mul_comm_int}
 use Rattle.poly_specs.proofs.FractionLemmas.{AtMost-trans, Below-AtMost, Below-not, either, AtMost-Below, Below-AtMost_trans, AtMost-same, same-trans, middle-den, middle-between, middle-same}
 use Rattle.poly_specs.specs.Fractions.{Fraction, IsFraction, SameFraction, AtMost, zero_fraction}
-use Rattle.poly_specs.specs.Picks.{IsInterval, IsNearer, IsNearestInteger, HasNoInteger, HasEnds, AreEnds, IsEndPick, IsPick, middle}
+use Rattle.poly_specs.specs.Sets.{IsInterval}
+use Rattle.poly_specs.specs.Picks.{IsNearer, IsNearestInteger, HasNoInteger, HasEnds, AreEnds, IsEndPick, IsPick, middle}
 
-zero_is : IsFraction zero_fraction
+pub zero_is : IsFraction zero_fraction
 zero_is = record { lt = tt }
 
 -- ---- integers
@@ -34,7 +35,7 @@ no_further_below x y hx hy n m px py = go x.num y.num (omega (arith, ints, px)) 
         opposite (pos (suc n)) h = absurd (omega (arith, ints))
         opposite (negsuc n) h = refl
 
-no_number : (x : Fraction) → IsNearer x zero_fraction → x.num ≡ pos 0
+pub no_number : (x : Fraction) → IsNearer x zero_fraction → x.num ≡ pos 0
 no_number x n = go x.num n
   where
     go : (a : ℤ) → (pos (unsigned_abs a) *ℤ pos 1) ≤ℤ (pos 0 *ℤ x.den) → a ≡ pos 0
@@ -104,12 +105,21 @@ module _ {S : Fraction → Type 0} where
   are_fractions near far (inl e) = (e.1.low_is, e.1.high_is)
   are_fractions near far (inr e) = (e.1.high_is, e.1.low_is)
 
-  pub member : (x z : Fraction) → IsInterval S → IsFraction z → S z → IsPick S x → S x
-  member x z is hz s pick = elim pick.kind [
+  pub member : (x : Fraction) → IsInterval S → IsPick S x → S x
+  member x is pick = elim pick.kind [
     | inl i ↦ i.inside
     | inr (none, (near, far, ends, end)) ↦ ended none near far ends end
   ]
     where
+      z : Fraction
+      z = pick.some.0
+
+      hz : IsFraction z
+      hz = pick.some.1
+
+      s : S z
+      s = pick.some.2
+
       meet : (l h : Fraction) → HasEnds S l h → AtMost h l → S l
       meet l h e le =
           let o = e.outside z hz s in
@@ -176,8 +186,8 @@ module _ {S : Fraction → Type 0} where
   same_end_picks near far near' far' x y is hx hy (hn, hf) (hn', hf') en ef (inr (inr a)) (inr (inr b)) =
       same_trans x (middle near far) (middle near' far') y hx (middle-den near far hn hf) (middle-den near' far' hn' hf') hy a.2 (middle-same near far near' far' en ef) b.2
 
-  pub unique : (z x y : Fraction) → IsInterval S → IsFraction z → S z → IsPick S x → IsPick S y → SameFraction x y
-  unique z x y is hz s px py = go px.kind py.kind
+  pub unique : (x y : Fraction) → IsInterval S → IsPick S x → IsPick S y → SameFraction x y
+  unique x y is px py = go px.kind py.kind
     where
       go : IsNearestInteger S x ⊎ (HasNoInteger S × ((near far : Fraction) × AreEnds S near far × IsEndPick S near far x)) →
           IsNearestInteger S y ⊎ (HasNoInteger S × ((near far : Fraction) × AreEnds S near far × IsEndPick S near far y)) → SameFraction x y
@@ -185,5 +195,5 @@ module _ {S : Fraction → Type 0} where
       go (inl i) (inr j) = absurd (j.0 x px.positive i.inside i.integer)
       go (inr i) (inl j) = absurd (i.0 y py.positive j.inside j.integer)
       go (inr (none, (near, far, e, a))) (inr (none', (near', far', f, b))) =
-          let same = same_near near far near' far' z hz s none e f in
+          let same = same_near near far near' far' px.some.0 px.some.1 px.some.2 none e f in
           same_end_picks near far near' far' x y is px.positive py.positive (are_fractions near far e) (are_fractions near' far' f) same.0 same.1 a b

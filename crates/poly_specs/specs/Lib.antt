@@ -3,5 +3,11 @@ pub mod Fractions
 pub mod Bits
 pub mod Rows
 pub mod Elimination
-pub mod Arithmetic
+pub mod Sets
 pub mod Picks
+pub mod Bounds
+pub mod Denominators
+pub mod Evaluation
+pub mod Pickings
+pub mod LowestTerms
+pub mod Arithmetic

@@ -1,11 +1,7 @@
 -- The pick of an interval of fractions, which is given as a set.
 use Rattle.std.specs.Prelude.{◌⊎◌, ◌≡◌, ℤ, pos, ◌+ℤ◌, ◌*ℤ◌, ◌≤ℤ◌, unsigned_abs}
 use Rattle.poly_specs.specs.Fractions.{Fraction, IsFraction, SameFraction, AtMost, Below, zero_fraction}
-
--- an interval of fractions: it does not tell equal fractions apart, and with two it has all between them
-pub record IsInterval (S : Fraction → Type 0) : Type 0 where
-  pub same : (x y : Fraction) → IsFraction x → IsFraction y → SameFraction x y → S x → S y
-  pub between : (x y z : Fraction) → IsFraction x → IsFraction y → IsFraction z → AtMost x y → AtMost y z → S x → S z → S y
+use Rattle.poly_specs.specs.Sets.{HasMember}
 
 -- x is an integer
 abbrev pub IsInteger : Fraction → Type 0
@@ -48,9 +44,16 @@ IsEndPick S near far x =
     ⊎ (((S near → ⊥) × S far × SameFraction x far)
     ⊎ ((S near → ⊥) × (S far → ⊥) × SameFraction x (middle near far)))
 
--- the pick of an interval: its integer nearest to 0, or else an end, or else its middle
+-- the pick of an interval that is not empty: its integer nearest to 0, or else an end, or else its middle
 pub record IsPick (S : Fraction → Type 0) (x : Fraction) : Type 0 where
   pub positive : IsFraction x
+  pub some : HasMember S
   pub kind :
       IsNearestInteger S x
       ⊎ (HasNoInteger S × ((near far : Fraction) × AreEnds S near far × IsEndPick S near far x))
+
+-- the pick of a closed interval: 0 if 0 is in it; else the integer in it nearest to 0; else what is nearest to 0, which is an end
+pub record IsClosedPick (S : Fraction → Type 0) (x : Fraction) : Type 0 where
+  pub zero : S zero_fraction → SameFraction x zero_fraction
+  pub integer : (y : Fraction) → IsFraction y → S y → IsInteger y → IsNearestInteger S x
+  pub end : HasNoInteger S → S x × ((y : Fraction) → IsFraction y → S y → IsNearer x y)

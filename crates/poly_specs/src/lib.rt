@@ -8,7 +8,11 @@ ghost use Rattle.poly_specs.specs.Fractions.{Fraction, IsFraction, SameFraction,
 ghost use Rattle.poly_specs.specs.Rows.{Row, Point, Holds, SamePoint, AllHold, AllWide, SomeValueHolds, SomeValuesHold};
 ghost use Rattle.poly_specs.specs.Elimination.{KeepsAmong, gcd, eliminated, eliminated_each, columns_down};
 ghost use Rattle.poly_specs.specs.Arithmetic.{lowest};
-ghost use Rattle.poly_specs.specs.Picks.{IsInterval, IsPick};
+ghost use Rattle.poly_specs.specs.Sets.{IsInterval};
+ghost use Rattle.poly_specs.specs.Picks.{IsPick};
+
+pub mod picks;
+pub mod projections;
 
 /// Equal points satisfy the same rows.
 pub fn equal_points()
@@ -37,15 +41,15 @@ pub fn no_tolerance()
     ensures { (v x : Fraction) → DifferAtMost zero_fraction v x ↔ SameFraction v x }
 {}
 
-/// An interval with something in it has at most one pick.
+/// An interval has at most one pick.
 pub fn one_pick()
-    ensures { (inside : Fraction → Bool) (z x y : Fraction) → IsInterval (λ v. IsTrue (inside v)) → IsFraction z → IsTrue (inside z) →
+    ensures { (inside : Fraction → Bool) (x y : Fraction) → IsInterval (λ v. IsTrue (inside v)) →
         IsPick (λ v. IsTrue (inside v)) x → IsPick (λ v. IsTrue (inside v)) y → SameFraction x y }
 {}
 
-/// The pick of an interval with something in it is in it.
+/// The pick of an interval is in it.
 pub fn pick_is_inside()
-    ensures { (inside : Fraction → Bool) (z x : Fraction) → IsInterval (λ v. IsTrue (inside v)) → IsFraction z → IsTrue (inside z) →
+    ensures { (inside : Fraction → Bool) (x : Fraction) → IsInterval (λ v. IsTrue (inside v)) →
         IsPick (λ v. IsTrue (inside v)) x → IsTrue (inside x) }
 {}
 

@@ -18,20 +18,20 @@ use Rattle.run_specs.specs.Stages.{zeros, cut, rows_after, row_of, leg_before, l
 
 -- ---- widths
 
-wide_from : (w : ℕ) (rows : List Row) → ((r : Row) → In r rows → length r.coef ≡ w) → AllWide w rows
+pub wide_from : (w : ℕ) (rows : List Row) → ((r : Row) → In r rows → length r.coef ≡ w) → AllWide w rows
 wide_from w rows f = All-from_recursion (λ r. length r.coef ≡ w) rows (go rows f)
   where
     go : (rows : List Row) → ((r : Row) → In r rows → length r.coef ≡ w) → AllByRecursion (λ r. length r.coef ≡ w) rows
     go [] f = tt
     go (r ∷ rows) f = (f r (inl refl), go rows (λ s i. f s (inr i)))
 
-wide_both : (w : ℕ) (rows more : List Row) → AllWide w rows → AllWide w more → AllWide w (rows ++ more)
+pub wide_both : (w : ℕ) (rows more : List Row) → AllWide w rows → AllWide w more → AllWide w (rows ++ more)
 wide_both w rows more h g = wide_from w (rows ++ more) (λ r i. elim (in_either r rows more i) [
   | inl j ↦ width_in w rows h r j
   | inr j ↦ width_in w more g r j
 ])
 
-wide_first : (w : ℕ) (r : Row) (rows : List Row) → length r.coef ≡ w → AllWide w rows → AllWide w (r ∷ rows)
+pub wide_first : (w : ℕ) (r : Row) (rows : List Row) → length r.coef ≡ w → AllWide w rows → AllWide w (r ∷ rows)
 wide_first w r rows h g = wide_from w (r ∷ rows) (λ s i. elim i [
   | inl e ↦ ap (λ z. length z.coef) e ∙ h
   | inr j ↦ width_in w rows g s j
@@ -83,7 +83,7 @@ cut_holds n k d ns r e =
     let here : dot (take n r.coef) ns ≡ dot r.coef (ns ++ zeros k) = ap (λ m. dot (take m r.coef) ns) (sym e) ∙ dot-cut r.coef ns k in
     by_value r.strict _ _ (ap (λ z. z +ℤ r.cst *ℤ d) here)
 
-all_cut : (n k : ℕ) (d : ℤ) (ns : List ℤ) (rows : List Row) → length ns ≡ n → AllHold (map (cut n) rows) (over d ns) ↔ AllHold rows (over d (ns ++ zeros k))
+pub all_cut : (n k : ℕ) (d : ℤ) (ns : List ℤ) (rows : List Row) → length ns ≡ n → AllHold (map (cut n) rows) (over d ns) ↔ AllHold rows (over d (ns ++ zeros k))
 all_cut n k d ns rows e = (
   λ h. AllHold-from_in rows (over d (ns ++ zeros k)) (λ r i. (cut_holds n k d ns r e).0 (AllHold-at_in (map (cut n) rows) (over d ns) h (cut n r) (in_map (cut n) r rows i))),
   λ h. AllHold-from_in (map (cut n) rows) (over d ns) (λ s i.
@@ -97,7 +97,7 @@ take_all : (ns more : List ℤ) → take (length ns) (ns ++ more) ≡ ns
 take_all [] more = refl
 take_all (n ∷ ns) more = ap (λ z. n ∷ z) (take_all ns more)
 
-take_n : (n : ℕ) (ns more : List ℤ) → length ns ≡ n → take n (ns ++ more) ≡ ns
+pub take_n : (n : ℕ) (ns more : List ℤ) → length ns ≡ n → take n (ns ++ more) ≡ ns
 take_n n ns more e = ap (λ k. take k (ns ++ more)) (sym e) ∙ take_all ns more
 
 record Split (k j : ℕ) (ns q : List ℤ) (e t : ℤ) (p : List ℤ) : Type 0 where
@@ -205,12 +205,12 @@ jump_wide a e state wr wi wide =
     let three = wide_moved m w (jump_inside_after m) inv wi (λ r h. omega (arith, h, length-append r.coef (zeros (m + 1)), length-zeros (m + 1))) in
     wide_both w (map (jump_before m) state ++ map (jump_related m) rel) _ (wide_both w (map (jump_before m) state) _ one two) three
 
-record SplitOne (k j : ℕ) (ns q : List ℤ) (e : ℤ) (p : List ℤ) : Type 0 where
-  is : ns ≡ q ++ e ∷ p
-  first : length q ≡ k
-  last : length p ≡ j
+pub record SplitOne (k j : ℕ) (ns q : List ℤ) (e : ℤ) (p : List ℤ) : Type 0 where
+  pub is : ns ≡ q ++ e ∷ p
+  pub first : length q ≡ k
+  pub last : length p ≡ j
 
-split_one : (k j : ℕ) (ns : List ℤ) → length ns ≡ k + (1 + j) → (q : List ℤ) × (e : ℤ) × (p : List ℤ) × SplitOne k j ns q e p
+pub split_one : (k j : ℕ) (ns : List ℤ) → length ns ≡ k + (1 + j) → (q : List ℤ) × (e : ℤ) × (p : List ℤ) × SplitOne k j ns q e p
 split_one zero j [] l = absurd (omega arith)
 split_one zero j (e ∷ p) l = ([], e, p, record { is = refl; first = refl; last = omega arith })
 split_one (suc k) j [] l = absurd (omega arith)

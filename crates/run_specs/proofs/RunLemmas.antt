@@ -1,11 +1,13 @@
 -- Runs along a longer and a shorter log, and the replies to them.
-use Rattle.std.proofs.Common.{◌≡◌, ◌≢◌, ℕ, List, [], ◌∷◌, ◌++◌, length, take, refl}
+use Rattle.std.proofs.Common.{◌≡◌, ◌≢◌, ℕ, List, [], ◌∷◌, ◌++◌, length, take, refl, sym, subst, append_assoc}
 use Rattle.poly_specs.specs.Fractions.{Fraction, zero_fraction}
 use Rattle.run_specs.specs.declared.Verdict.{Verdict}
 use Rattle.run_specs.specs.declared.Verdict.TheVariants.{Alarm, Safe, Impossible, Overflow}
 use Rattle.run_specs.specs.Automaton.{Automaton}
 use Rattle.run_specs.specs.Logs.{Sample}
 use Rattle.run_specs.specs.Runs.{GapRun, Place, Run, Follows, IsRun, end_of}
+use Rattle.run_specs.specs.Passes.{LogPasses}
+use Rattle.run_specs.proofs.PassesLemmas.{LogPasses-longer}
 use Rattle.run_specs.specs.Verdicts.{IsLawful, AreLawfulAfter, NoOverflow}
 
 -- a run of a log gives a run of each log that this one begins with
@@ -50,3 +52,26 @@ replies_after a k before (s ∷ ss) (v ∷ vs) (w ∷ ws) nv nw x y =
 pub replies_unique : (a : Automaton) (k : ℕ) (ss : List Sample) (vs ws : List Verdict) → NoOverflow vs → NoOverflow ws →
     AreLawfulAfter a k [] ss vs → AreLawfulAfter a k [] ss ws → vs ≡ ws
 replies_unique a k ss vs ws = replies_after a k [] ss vs ws
+
+-- ---- a log that does not pass
+
+not_overflow : (a : Automaton) (k : ℕ) (ss : List Sample) (v : Verdict) → (LogPasses a k ss → ⊥) → IsLawful a k ss v → v ≢ Overflow
+not_overflow a k ss v fits x e = fits (subst (IsLawful a k ss) e x)
+
+pub verdict_unique : (a : Automaton) (k : ℕ) (ss : List Sample) (v w : Verdict) → (LogPasses a k ss → ⊥) → IsLawful a k ss v → IsLawful a k ss w → v ≡ w
+verdict_unique a k ss v w fits x y = IsLawful-unique a k ss v w (not_overflow a k ss v fits x) (not_overflow a k ss w fits y) x y
+
+none_overflow : (a : Automaton) (k : ℕ) (before ss : List Sample) (vs : List Verdict) → (LogPasses a k (before ++ ss) → ⊥) → AreLawfulAfter a k before ss vs → NoOverflow vs
+none_overflow a k before [] [] fits x = tt
+none_overflow a k before [] (v ∷ vs) fits x = absurd x
+none_overflow a k before (s ∷ ss) [] fits x = absurd x
+none_overflow a k before (s ∷ ss) (v ∷ vs) fits x =
+    let e : (before ++ s ∷ []) ++ ss ≡ before ++ s ∷ ss = append_assoc before (s ∷ []) ss in
+    let after : LogPasses a k ((before ++ s ∷ []) ++ ss) → ⊥ = subst (λ log. LogPasses a k log → ⊥) (sym e) fits in (
+      not_overflow a k (before ++ s ∷ []) v (λ p. after (LogPasses-longer a k (before ++ s ∷ []) ss p)) x.0,
+      none_overflow a k (before ++ s ∷ []) ss vs after x.2,
+    )
+
+pub verdicts_unique : (a : Automaton) (k : ℕ) (ss : List Sample) (vs ws : List Verdict) → (LogPasses a k ss → ⊥) →
+    AreLawfulAfter a k [] ss vs → AreLawfulAfter a k [] ss ws → vs ≡ ws
+verdicts_unique a k ss vs ws fits x y = replies_unique a k ss vs ws (none_overflow a k [] ss vs fits x) (none_overflow a k [] ss ws fits y) x y

@@ -14,9 +14,9 @@ use Rattle.poly_specs.specs.Lists.{In, number_at}
 use Rattle.poly_specs.specs.Fractions.{Fraction, IsFraction, SameFraction, AtMost, DifferAtMost, difference, opposite}
 use Rattle.poly_specs.specs.Arithmetic.{least_sum, left_factor, right_factor}
 use Rattle.poly_specs.specs.Elimination.{gcd}
-use Rattle.poly_specs.specs.Rows.{Point, Row, over, Holds, AllHold}
+use Rattle.poly_specs.specs.Rows.{Point, Row, over, coordinate, Holds, AllHold}
 use Rattle.run_specs.specs.Automaton.{Automaton, width, tolerance_at}
-use Rattle.run_specs.specs.Logs.{IsPassing, cell_at, coordinate}
+use Rattle.run_specs.specs.Logs.{IsPassing, cell_at}
 use Rattle.run_specs.specs.Stages.{row_of, at_most, at_least, near_rows, seen_rows, below, sample_rows}
 
 -- ---- rows of one column
@@ -118,10 +118,10 @@ sum_below v w x hv hw =
 
 -- ---- the rows of an observed variable
 
-abbrev Near : ℕ → Fraction → Option Fraction → Point → Type 0
+abbrev pub Near : ℕ → Fraction → Option Fraction → Point → Type 0
 Near j w cell p = (v : Fraction) → cell ≡ Some v → DifferAtMost w v (coordinate j p)
 
-near_rows_hold : (n j : ℕ) (w : Fraction) (cell : Option Fraction) (p : Point) → j < n → IsFraction w → ((v : Fraction) → cell ≡ Some v → IsFraction v) →
+pub near_rows_hold : (n j : ℕ) (w : Fraction) (cell : Option Fraction) (p : Point) → j < n → IsFraction w → ((v : Fraction) → cell ≡ Some v → IsFraction v) →
     AllHold (near_rows n j w cell) p ↔ Near j w cell p
 near_rows_hold n j w None p h hw hc = (λ g v e. absurd (let b : ⊥ = cc in b), λ g. AllHold-from_in [] p (λ r i. absurd i))
 near_rows_hold n j w (Some u) p h hw hc =
@@ -144,14 +144,14 @@ near_rows_hold n j w (Some u) p h hw hc =
 
 -- ---- all variables
 
-in_below : (n j : ℕ) → j < n → In j (below n)
+pub in_below : (n j : ℕ) → j < n → In j (below n)
 in_below zero j h = absurd (omega arith)
 in_below (suc n) j h = elim (cases_lt j n) [
   | inl lt ↦ in_left j (below n) (n ∷ []) (in_below n j lt)
   | inr ge ↦ in_right j (below n) (n ∷ []) (inl (omega arith))
 ]
 
-out_below : (n j : ℕ) → In j (below n) → j < n
+pub out_below : (n j : ℕ) → In j (below n) → j < n
 out_below zero j i = absurd i
 out_below (suc n) j i = elim (in_either j (below n) (n ∷ []) i) [
   | inl k ↦ (let h = out_below n j k in omega arith)
@@ -159,7 +159,7 @@ out_below (suc n) j i = elim (in_either j (below n) (n ∷ []) i) [
   | inr (inr k) ↦ absurd k
 ]
 
-all_seen : (a : Automaton) (cells : List (Option Fraction)) (n : ℕ) (p : Point) →
+pub all_seen : (a : Automaton) (cells : List (Option Fraction)) (n : ℕ) (p : Point) →
     AllHold (flat_map (seen_rows a cells) (below n)) p ↔ ((j : ℕ) → j < n → AllHold (seen_rows a cells j) p)
 all_seen a cells n p = (
   λ h j hj. AllHold-from_in (seen_rows a cells j) p (λ r i.
@@ -168,12 +168,12 @@ all_seen a cells n p = (
       let y = out_flat_map (seen_rows a cells) r (below n) i in AllHold-at_in (seen_rows a cells y.0) p (h y.0 (out_below n y.0 y.1)) r y.2),
 )
 
-number_before : (ns : List ℤ) (e : ℤ) (j : ℕ) → j < length ns → number_at j (ns ++ e ∷ []) ≡ number_at j ns
+pub number_before : (ns : List ℤ) (e : ℤ) (j : ℕ) → j < length ns → number_at j (ns ++ e ∷ []) ≡ number_at j ns
 number_before [] e j h = absurd (omega arith)
 number_before (n ∷ ns) e zero h = refl
 number_before (n ∷ ns) e (suc j) h = number_before ns e j (omega arith)
 
-number_last : (ns : List ℤ) (e : ℤ) → number_at (length ns) (ns ++ e ∷ []) ≡ e
+pub number_last : (ns : List ℤ) (e : ℤ) → number_at (length ns) (ns ++ e ∷ []) ≡ e
 number_last [] e = refl
 number_last (n ∷ ns) e = number_last ns e
 

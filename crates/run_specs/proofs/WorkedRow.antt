@@ -5,9 +5,9 @@ use Rattle.std.specs.List.{list_all}
 use Rattle.std.proofs.lemmas.Int.{ints}
 use Rattle.std.proofs.lemmas.List.Elements.{All-nil, All-cons}
 use Rattle.poly_specs.specs.Fractions.{Fraction, DifferAtMost}
-use Rattle.poly_specs.specs.Rows.{Row, Point, over, row_value, Allows, Holds, AllHold}
+use Rattle.poly_specs.specs.Rows.{Row, Point, over, coordinate, row_value, Allows, Holds, AllHold}
 use Rattle.run_specs.specs.Automaton.{Location, Automaton, transition_at, tolerance_at}
-use Rattle.run_specs.specs.Logs.{Sample, IsPassing, cell_at, coordinate}
+use Rattle.run_specs.specs.Logs.{Sample, IsPassing, cell_at}
 use Rattle.run_specs.specs.Runs.{GapRun, Run, IsRun, IsLeg, VisitsUnsafe}
 use Rattle.run_specs.specs.Verdicts.{IsAlarmed}
 

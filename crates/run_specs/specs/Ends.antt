@@ -1,7 +1,9 @@
--- Where the legs and the jumps from a state of a gap end.
-use Rattle.std.specs.Prelude.{◌≡◌, ℕ, List, [], ◌∷◌, ◌++◌, length, ℤ, pos, ◌-ℤ◌, ◌<ℤ◌}
+-- Where the legs, the jumps and the sample of a gap lead from a state.
+use Rattle.std.specs.Prelude.{◌≡◌, ℕ, List, [], ◌∷◌, ◌++◌, length, Option, ℤ, pos, ◌-ℤ◌, ◌<ℤ◌}
+use Rattle.poly_specs.specs.Fractions.{Fraction, SameFraction}
 use Rattle.poly_specs.specs.Rows.{Point, Row, over, SamePoint, AllHold}
 use Rattle.run_specs.specs.Automaton.{Automaton, width, location_at}
+use Rattle.run_specs.specs.Logs.{IsPassing}
 use Rattle.run_specs.specs.Runs.{IsLeg, IsJump}
 
 -- a leg in location l from p to q in time t starts in the state and ends, with the elapsed time, at the given point
@@ -27,3 +29,16 @@ pub record EndsJump (a : Automaton) (e : ℕ) (state : List Row) (end : Point) (
 -- some jump from the state ends there
 abbrev pub SomeJumpEnds : Automaton → ℕ → List Row → Point → Type 0
 SomeJumpEnds a e state end = (d : ℤ) × (q : List ℤ) × (elapsed : ℤ) × (p : List ℤ) × EndsJump a e state end d q elapsed p
+
+-- q is a point of the state at which the gap's length has elapsed, it passes the sample, and it is the given point
+pub record EndsSample (a : Automaton) (duration : Fraction) (cells : List (Option Fraction)) (state : List Row) (end : Point) (d : ℤ) (q : List ℤ) (elapsed : ℤ) : Type 0 where
+  pub positive : pos 0 <ℤ d
+  pub sized : length q ≡ width a
+  pub starts : AllHold state (over d (q ++ elapsed ∷ []))
+  pub lasts : SameFraction (record { num = elapsed; den = d }) duration
+  pub passes : IsPassing a cells (over d q)
+  pub ends : SamePoint end (over d q)
+
+-- some such point is the given one
+abbrev pub SomeSampleEnds : Automaton → Fraction → List (Option Fraction) → List Row → Point → Type 0
+SomeSampleEnds a duration cells state end = (d : ℤ) × (q : List ℤ) × (elapsed : ℤ) × EndsSample a duration cells state end d q elapsed

@@ -1,3 +1,4 @@
+pub mod Names
 pub mod Automaton
 pub mod WellFormed
 pub mod Logs
@@ -9,6 +10,9 @@ pub mod Verdicts
 pub mod Histories
 pub mod FirstRun
 pub mod RunPasses
+pub mod Keys
 pub mod Outcomes
+pub mod Openings
+pub mod SessionHistories
 pub mod Sessions
 pub mod Worlds

@@ -1,8 +1,8 @@
 -- Logs: samples with times and observed values.
 use Rattle.std.specs.Prelude.{◌≡◌, ℕ, List, [], ◌∷◌, length, All, Option, Some, None, IfSome, slice_index_or, ⊤}
-use Rattle.poly_specs.specs.Lists.{number_at}
-use Rattle.poly_specs.specs.Fractions.{Fraction, IsFraction, AtMost, Below, DifferAtMost, zero_fraction}
-use Rattle.poly_specs.specs.Rows.{Point}
+use Rattle.poly_specs.specs.Fractions.{Fraction, AtMost, Below, DifferAtMost, zero_fraction}
+use Rattle.poly_specs.specs.LowestTerms.{IsLowest}
+use Rattle.poly_specs.specs.Rows.{Point, coordinate}
 use Rattle.run_specs.specs.Automaton.{Automaton, tolerance_at, width}
 
 -- a time, and for each variable a value or a blank
@@ -14,11 +14,11 @@ pub record Sample : Type 0 where
 abbrev pub cell_at : ℕ → List (Option Fraction) → Option Fraction
 cell_at j cells = slice_index_or cells j None
 
--- a sample of m variables: its numbers are fractions
+-- a sample of m variables: its numbers are fractions in lowest terms
 pub record IsSample (m : ℕ) (s : Sample) : Type 0 where
-  pub time : IsFraction s.time
+  pub time : IsLowest s.time
   pub sized : length s.cells ≡ m
-  pub cells : All (λ cell. IfSome cell IsFraction) s.cells
+  pub cells : All (λ cell. IfSome cell IsLowest) s.cells
 
 -- times rise strictly from this one on
 abbrev pub RiseFrom : Fraction → List Sample → Type 0
@@ -34,10 +34,6 @@ TimesRise (s ∷ ss) = AtMost zero_fraction s.time × RiseFrom s.time ss
 pub record IsLog (m : ℕ) (samples : List Sample) : Type 0 where
   pub each : All (IsSample m) samples
   pub rise : TimesRise samples
-
--- the point's coordinate of this variable
-abbrev pub coordinate : ℕ → Point → Fraction
-coordinate j p = record { num = number_at j p.num; den = p.den }
 
 -- the point passes the cells: each observed value differs from its coordinate by at most the variable's tolerance
 pub record IsPassing (a : Automaton) (cells : List (Option Fraction)) (p : Point) : Type 0 where

@@ -1,32 +1,18 @@
 -- One gap of a session: from the states before it and the sample after it to the states after it.
-use Rattle.std.specs.Prelude.{◌≡◌, ◌⊎◌, ◌↔◌, ℕ, ◌+◌, ◌<◌, ◌≤◌, Bool, false, ◌||◌, List, [], ◌∷◌, ◌++◌, map, flat_map, length, All, IfSome, Option, ℤ, pos, negsuc, neg_ℤ, ◌<ℤ◌, slice_index_or, ⊤}
+use Rattle.std.specs.Prelude.{◌≡◌, ◌⊎◌, ◌↔◌, ℕ, ◌<◌, ◌≤◌, Bool, ◌||◌, List, [], ◌∷◌, length, pos, ◌<ℤ◌, ⊤}
 use Rattle.std.specs.Ordering.{nat_cmp, ordering_then}
 use Rattle.std.specs.declared.cmp.Ordering.TheVariants.{Less}
 use Rattle.std.specs.Cmp.Lexicographic.{slice_cmp}
 use Rattle.poly_specs.specs.Lists.{In}
-use Rattle.poly_specs.specs.Fractions.{Fraction, IsFraction, AtMost, zero_fraction}
-use Rattle.poly_specs.specs.Rows.{Point, Row, SamePoint, AllHold, AllWide}
+use Rattle.poly_specs.specs.Rows.{Point, Row, SamePoint, AllHold}
 use Rattle.poly_specs.specs.Bits.{SomePasses}
-use Rattle.poly_specs.specs.Elimination.{formed_each, columns_down}
-use Rattle.run_specs.specs.Automaton.{Automaton, width, never}
+use Rattle.poly_specs.specs.Bounds.{inclusion_numbers}
+use Rattle.run_specs.specs.Automaton.{width}
 use Rattle.run_specs.specs.Logs.{IsPassing}
 use Rattle.run_specs.specs.Runs.{GapRun, IsGapRun, start_point, end_point, path_of, end_loc, goes_unsafe}
-use Rattle.run_specs.specs.Stages.{gap_stages, gap_rows, SomeReachedPasses, with_coef}
+use Rattle.run_specs.specs.Stages.{gap_stages, gap_rows, SomeReachedPasses}
 use Rattle.run_specs.specs.Passes.{Fits}
-
--- where a run may stand: a location, whether a run to here visited an unsafe one, and the rows of the values
-pub record State : Type 0 where
-  pub loc : ℕ
-  pub seen_unsafe : Bool
-  pub rows : List Row
-
--- what the states after a gap depend on: the states before it, its length and what its sample observes
-pub record Key : Type 0 where
-  pub automaton : Automaton
-  pub jumps : ℕ
-  pub belief : List State
-  pub gap : Fraction
-  pub seen : List (Option Fraction)
+use Rattle.run_specs.specs.Keys.{State, Key, parent_at}
 
 -- a state after the gap, with the number of the state before and the path from there
 pub record Item : Type 0 where
@@ -38,26 +24,6 @@ pub record Item : Type 0 where
 pub data Outcome : Type 0 where
   Next : (items : List Item) → Outcome
   Passed : Outcome
-
--- a state of an automaton
-pub record IsState (a : Automaton) (s : State) : Type 0 where
-  pub loc : s.loc < length a.locations
-  pub wide : AllWide (width a) s.rows
-
--- a key within its limits
-pub record IsKey (key : Key) : Type 0 where
-  pub jumps : key.jumps ≤ 6
-  pub belief : All (IsState key.automaton) key.belief
-  pub gap : IsFraction key.gap × AtMost zero_fraction key.gap
-  pub seen : (length key.seen ≡ width key.automaton) × All (λ cell. IfSome cell IsFraction) key.seen
-
--- past the last state, one that no point is in
-abbrev pub no_state : State
-no_state = record { loc = 0; seen_unsafe = false; rows = never ∷ [] }
-
--- the state before the gap of this number
-abbrev pub parent_at : Key → ℕ → State
-parent_at key i = slice_index_or key.belief i no_state
 
 -- the path may be taken from this parent: it leaves the parent's location, and has at most so many transitions as the key allows
 pub record MayTake (key : Key) (i : ℕ) (path : List ℕ) : Type 0 where
@@ -140,18 +106,6 @@ IsAccounted key items i path =
     ((x : Item) × In x items × (x.parent ≡ i) × (x.path ≡ path))
     ⊎ (((q : Point) → IsEnd key i path q → ⊥)
     ⊎ ((x : Item) × IsCovered key items i path x))
-
--- the rows with a new column 0 that equals the sum of the row r
-abbrev pub with_sum : Row → List Row → List Row
-with_sum r rows =
-    map (λ s. with_coef (pos 0 ∷ s.coef) s) rows
-    ++ record { coef = pos 1 ∷ map neg_ℤ r.coef; cst = neg_ℤ r.cst; strict = false }
-    ∷ record { coef = negsuc 0 ∷ r.coef; cst = r.cst; strict = false }
-    ∷ []
-
--- the numbers that it takes to decide whether the small system, of n columns, is included in the big one
-abbrev pub inclusion_numbers : ℕ → List Row → List Row → List ℤ
-inclusion_numbers n big small = flat_map (λ r. formed_each (columns_down 0 (n + 1)) (with_sum r small)) big
 
 -- an item whose ends are those of an earlier one that is alike is there only where deciding this passes
 abbrev pub IsNeeded : Key → Item → Item → Type 0

@@ -1,9 +1,9 @@
 -- The plain stages of a history: the systems of rows that it goes through, and the numbers that they form.
-use Rattle.std.specs.Prelude.{◌≡◌, ◌⊎◌, ℕ, zero, suc, ◌+◌, ◌*◌, ◌==◌, Bool, false, List, [], ◌∷◌, ◌++◌, map, filter, flat_map, length, take, drop, replicate, ℤ, pos, negsuc, neg_ℤ, ◌<ℤ◌, unsigned_abs, Option, Some, None, slice_set}
+use Rattle.std.specs.Prelude.{◌⊎◌, ℕ, zero, suc, ◌+◌, ◌*◌, ◌==◌, Bool, false, List, [], ◌∷◌, ◌++◌, map, filter, flat_map, take, drop, replicate, ℤ, pos, negsuc, neg_ℤ, unsigned_abs, Option, Some, None, slice_set}
 use Rattle.poly_specs.specs.Lists.{number_at}
 use Rattle.poly_specs.specs.Fractions.{Fraction, opposite, difference}
 use Rattle.poly_specs.specs.Arithmetic.{least_sum, sum_numbers}
-use Rattle.poly_specs.specs.Rows.{Point, Row, AllHold, over}
+use Rattle.poly_specs.specs.Rows.{Point, Row, HasPoint, over, with_coef}
 use Rattle.poly_specs.specs.Bits.{SomePasses}
 use Rattle.poly_specs.specs.Elimination.{divided, eliminated_each, formed_each, columns_down}
 use Rattle.run_specs.specs.Automaton.{Automaton, width, location_at, transition_at, tolerance_at}
@@ -33,10 +33,6 @@ rows_after s = map (cut s.left) (eliminated_each s.columns s.rows ++ s.again)
 unfoldable pub stage_numbers : Stage → List ℤ
 stage_numbers s = s.sums ++ formed_each s.columns s.rows ++ formed_each (columns_down 0 s.left) (rows_after s)
 
--- the system has a point in its n columns
-abbrev pub HasPoint : ℕ → List Row → Type 0
-HasPoint n rows = (p : Point) × (pos 0 <ℤ p.den) × (length p.num ≡ n) × AllHold rows p
-
 -- a number of a reached stage passes; a stage is reached where all stages before it have a point
 abbrev pub SomeReachedPasses : List Stage → Type 0
 SomeReachedPasses [] = ⊥
@@ -47,10 +43,6 @@ SomeReachedPasses (s ∷ ss) = SomePasses (stage_numbers s) ⊎ (HasPoint s.left
 -- n zeros
 abbrev pub zeros : ℕ → List ℤ
 zeros n = replicate n (pos 0)
-
--- the row with these coefficients
-abbrev pub with_coef : List ℤ → Row → Row
-with_coef coef r = record r { coef = coef }
 
 -- of n columns, the row that says c * x + b ≤ 0 of column x
 abbrev pub row_of : ℕ → ℕ → ℤ → ℤ → Row

@@ -1,15 +1,16 @@
 -- A world of sessions that share a memo, and its steps.
-use Rattle.std.specs.Prelude.{◌≡◌, ℕ, List, [], ◌∷◌, ◌++◌, length, Option, Some, None, slice_get, slice_set, if◌then◌else◌, ◌==◌}
+use Rattle.std.specs.Prelude.{◌≡◌, ℕ, List, [], ◌∷◌, ◌++◌, length, Option, Some, None, slice_get, slice_set, if◌then◌else◌, ◌==◌, ⊤}
 use Rattle.poly_specs.specs.Lists.{In, IsAmong}
 use Rattle.run_specs.specs.declared.Verdict.{Verdict}
-use Rattle.run_specs.specs.Logs.{Sample}
-use Rattle.run_specs.specs.Outcomes.{Key, IsExact}
-use Rattle.run_specs.specs.Sessions.{Entry, Session, Idle, Begun, Missed, Filled, MayBegin, SessionHistory, accepted, key_for, wanted, reply_at}
+use Rattle.run_specs.specs.Logs.{Sample, IsSample}
+use Rattle.run_specs.specs.Keys.{Key}
+use Rattle.run_specs.specs.SessionHistories.{Entry, IsEntry, SessionHistory, verdict_at}
+use Rattle.run_specs.specs.Sessions.{MonitorSession, IsMonitorSession, Idle, Begun, Missed, Filled, MayBegin, accepted, key_for, wanted}
 
 -- the entries of the memo, in any order, and the sessions
 pub record World : Type 0 where
   pub memo : List Entry
-  pub sessions : List Session
+  pub sessions : List MonitorSession
 
 -- one atomic step of the session of this number
 pub data Event : Type 0 where
@@ -20,8 +21,8 @@ pub data Event : Type 0 where
   Put : (session : ℕ) → Event
   Finish : (session : ℕ) → Event
 
--- the reply of the session of this number
-pub record Reply : Type 0 where
+-- the verdict that a step tells for a sample of the session of this number
+pub record Told : Type 0 where
   pub session : ℕ
   pub verdict : Verdict
 
@@ -29,9 +30,16 @@ pub record Reply : Type 0 where
 abbrev pub HasKey : Key → List Entry → Type 0
 HasKey key memo = (e : Entry) × In e memo × (e.key ≡ key)
 
--- the same entries, in any order
-abbrev pub SameEntries : List Entry → List Entry → Type 0
-SameEntries es fs = IsAmong es fs × IsAmong fs es
+-- the keys of the entries are distinct
+abbrev pub KeysDiffer : List Entry → Type 0
+KeysDiffer [] = ⊤
+KeysDiffer (e ∷ es) = (HasKey e.key es → ⊥) × KeysDiffer es
+
+-- the same entries, in any order, and none of them twice
+pub record SameEntries (before after : List Entry) : Type 0 where
+  pub kept : IsAmong before after
+  pub no_more : IsAmong after before
+  pub differ : KeysDiffer after
 
 -- the entry is added where its key is absent
 pub record IsPut (before : List Entry) (e : Entry) (after : List Entry) : Type 0 where
@@ -39,7 +47,7 @@ pub record IsPut (before : List Entry) (e : Entry) (after : List Entry) : Type 0
   pub absent : (HasKey e.key before → ⊥) → SameEntries (e ∷ before) after
 
 -- session i is s before and t after; the other sessions stay
-pub record Changes (i : ℕ) (before : List Session) (s t : Session) (after : List Session) : Type 0 where
+pub record Changes (i : ℕ) (before : List MonitorSession) (s t : MonitorSession) (after : List MonitorSession) : Type 0 where
   pub was : slice_get before i ≡ Some s
   pub becomes : after ≡ slice_set before i t
 
@@ -49,87 +57,97 @@ joined h None = h
 joined h (Some e) = record h { gaps = h.gaps ++ e ∷ [] }
 
 -- an idle session begins a sample
-pub record IsBegin (sample : Sample) (s t : Session) : Type 0 where
+pub record IsBegin (sample : Sample) (s t : MonitorSession) : Type 0 where
   pub idle : s.phase ≡ Idle
   pub may_begin : MayBegin s sample
   pub after : t ≡ record s { phase = Begun sample; given = None }
 
 -- the entry for the wanted key stands in the memo, and is given
-pub record IsLookHit (memo : List Entry) (e : Entry) (s t : Session) : Type 0 where
+pub record IsLookHit (memo : List Entry) (e : Entry) (s t : MonitorSession) : Type 0 where
   pub wants : wanted s ≡ Some e.key
   pub found : In e memo
   pub after : t ≡ record s { given = Some e }
 
 -- the memo has no entry for the wanted key
-pub record IsLookMiss (memo : List Entry) (sample : Sample) (s t : Session) : Type 0 where
+pub record IsLookMiss (memo : List Entry) (sample : Sample) (s t : MonitorSession) : Type 0 where
   pub begun : s.phase ≡ Begun sample
   pub wants : wanted s ≡ Some (key_for s sample)
   pub lacking : HasKey (key_for s sample) memo → ⊥
   pub after : t ≡ record s { phase = Missed sample }
 
 -- an exact entry is made for the wanted key
-pub record IsFill (sample : Sample) (made : Entry) (s t : Session) : Type 0 where
+pub record IsFill (sample : Sample) (made : Entry) (s t : MonitorSession) : Type 0 where
   pub missed : s.phase ≡ Missed sample
   pub key : made.key ≡ key_for s sample
-  pub exact : IsExact made.key made.outcome
+  pub entry : IsEntry made
   pub after : t ≡ record s { phase = Filled sample made }
 
 -- the made entry is put into the memo, and given
-pub record IsPutStep (before after : List Entry) (sample : Sample) (made : Entry) (s t : Session) : Type 0 where
+pub record IsPutStep (before after : List Entry) (sample : Sample) (made : Entry) (s t : MonitorSession) : Type 0 where
   pub filled : s.phase ≡ Filled sample made
   pub put : IsPut before made after
   pub after_it : t ≡ record s { phase = Begun sample; given = Some made }
 
--- the sample joins the log, the given entry the history, which then tells the reply at this sample's place
-pub record IsFinish (sample : Sample) (v : Verdict) (s t : Session) : Type 0 where
+-- the sample joins the log, the given entry the history, which then tells the verdict at this sample's place
+pub record IsFinish (sample : Sample) (v : Verdict) (s t : MonitorSession) : Type 0 where
   pub begun : s.phase ≡ Begun sample
   pub nothing_wanted : wanted s ≡ None
-  pub replies : reply_at (joined s.history s.given) (length s.log) ≡ Some v
+  pub tells : verdict_at (joined s.history s.given) (length s.log) ≡ Some v
   pub after : t ≡ record s { log = s.log ++ accepted s sample ∷ []; history = joined s.history s.given; given = None; phase = Idle }
 
--- the event leads from the world w to the world v and tells these replies
-abbrev pub IsStep : World → Event → List Reply → World → Type 0
+-- the event leads from the world w to the world v and tells these verdicts
+abbrev pub IsStep : World → Event → List Told → World → Type 0
 IsStep w (Begin i sample) told v =
-    (s t : Session) × Changes i w.sessions s t v.sessions × IsBegin sample s t × SameEntries w.memo v.memo × (told ≡ [])
+    (s t : MonitorSession) × Changes i w.sessions s t v.sessions × IsBegin sample s t × SameEntries w.memo v.memo × (told ≡ [])
 IsStep w (LookHit i) told v =
-    (s t : Session) × (e : Entry) × Changes i w.sessions s t v.sessions × IsLookHit w.memo e s t × SameEntries w.memo v.memo × (told ≡ [])
+    (s t : MonitorSession) × (e : Entry) × Changes i w.sessions s t v.sessions × IsLookHit w.memo e s t × SameEntries w.memo v.memo × (told ≡ [])
 IsStep w (LookMiss i) told v =
-    (s t : Session) × (sample : Sample) × Changes i w.sessions s t v.sessions × IsLookMiss w.memo sample s t × SameEntries w.memo v.memo × (told ≡ [])
+    (s t : MonitorSession) × (sample : Sample) × Changes i w.sessions s t v.sessions × IsLookMiss w.memo sample s t × SameEntries w.memo v.memo × (told ≡ [])
 IsStep w (Fill i) told v =
-    (s t : Session) × (sample : Sample) × (made : Entry) × Changes i w.sessions s t v.sessions × IsFill sample made s t × SameEntries w.memo v.memo × (told ≡ [])
+    (s t : MonitorSession) × (sample : Sample) × (made : Entry) × Changes i w.sessions s t v.sessions × IsFill sample made s t × SameEntries w.memo v.memo × (told ≡ [])
 IsStep w (Put i) told v =
-    (s t : Session) × (sample : Sample) × (made : Entry) × Changes i w.sessions s t v.sessions × IsPutStep w.memo v.memo sample made s t × (told ≡ [])
+    (s t : MonitorSession) × (sample : Sample) × (made : Entry) × Changes i w.sessions s t v.sessions × IsPutStep w.memo v.memo sample made s t × (told ≡ [])
 IsStep w (Finish i) told v =
-    (s t : Session) × (sample : Sample) × (verdict : Verdict) × Changes i w.sessions s t v.sessions × IsFinish sample verdict s t
+    (s t : MonitorSession) × (sample : Sample) × (verdict : Verdict) × Changes i w.sessions s t v.sessions × IsFinish sample verdict s t
     × SameEntries w.memo v.memo × (told ≡ record { session = i; verdict = verdict } ∷ [])
 
 -- the event is allowed in the world
 abbrev pub IsAllowed : World → Event → Type 0
 IsAllowed w (Begin i sample) =
-    (s : Session) × (slice_get w.sessions i ≡ Some s) × (s.phase ≡ Idle) × MayBegin s sample
+    (s : MonitorSession) × (slice_get w.sessions i ≡ Some s) × (s.phase ≡ Idle) × MayBegin s sample
 IsAllowed w (LookHit i) =
-    (s : Session) × (key : Key) × (slice_get w.sessions i ≡ Some s) × (wanted s ≡ Some key) × HasKey key w.memo
+    (s : MonitorSession) × (key : Key) × (slice_get w.sessions i ≡ Some s) × (wanted s ≡ Some key) × HasKey key w.memo
 IsAllowed w (LookMiss i) =
-    (s : Session) × (key : Key) × (slice_get w.sessions i ≡ Some s) × (wanted s ≡ Some key) × (HasKey key w.memo → ⊥)
+    (s : MonitorSession) × (key : Key) × (slice_get w.sessions i ≡ Some s) × (wanted s ≡ Some key) × (HasKey key w.memo → ⊥)
 IsAllowed w (Fill i) =
-    (s : Session) × (sample : Sample) × (slice_get w.sessions i ≡ Some s) × (s.phase ≡ Missed sample)
+    (s : MonitorSession) × (sample : Sample) × (slice_get w.sessions i ≡ Some s) × (s.phase ≡ Missed sample)
 IsAllowed w (Put i) =
-    (s : Session) × (sample : Sample) × (made : Entry) × (slice_get w.sessions i ≡ Some s) × (s.phase ≡ Filled sample made)
+    (s : MonitorSession) × (sample : Sample) × (made : Entry) × (slice_get w.sessions i ≡ Some s) × (s.phase ≡ Filled sample made)
 IsAllowed w (Finish i) =
-    (s : Session) × (sample : Sample) × (slice_get w.sessions i ≡ Some s) × (s.phase ≡ Begun sample) × (wanted s ≡ None)
+    (s : MonitorSession) × (sample : Sample) × (slice_get w.sessions i ≡ Some s) × (s.phase ≡ Begun sample) × (wanted s ≡ None)
 
--- the events, one after the other, lead from w to v and tell these replies in order
-abbrev pub LeadTo : World → List Event → List Reply → World → Type 0
-LeadTo w [] replies v = (SameEntries w.memo v.memo × (w.sessions ≡ v.sessions)) × (replies ≡ [])
-LeadTo w (event ∷ events) replies v =
-    (u : World) × (told later : List Reply) × IsStep w event told u × LeadTo u events later v × (replies ≡ told ++ later)
+-- the events, one after the other, lead from w to v and tell these verdicts in order
+abbrev pub LeadTo : World → List Event → List Told → World → Type 0
+LeadTo w [] told v = (SameEntries w.memo v.memo × (w.sessions ≡ v.sessions)) × (told ≡ [])
+LeadTo w (event ∷ events) told v =
+    (u : World) × (now later : List Told) × IsStep w event now u × LeadTo u events later v × (told ≡ now ++ later)
 
--- the replies of one session, in order
-abbrev pub replies_of : ℕ → List Reply → List Verdict
-replies_of i [] = []
-replies_of i (r ∷ rs) = if r.session == i then r.verdict ∷ replies_of i rs else replies_of i rs
+-- the verdicts of one session, in order
+abbrev pub verdicts_of : ℕ → List Told → List Verdict
+verdicts_of i [] = []
+verdicts_of i (t ∷ ts) = if t.session == i then t.verdict ∷ verdicts_of i ts else verdicts_of i ts
 
--- keys are distinct, and each entry is exact for its key
-pub record IsSound (memo : List Entry) : Type 0 where
-  pub distinct : (e f : Entry) → In e memo → In f memo → e.key ≡ f.key → e ≡ f
-  pub exact : (e : Entry) → In e memo → IsExact e.key e.outcome
+-- what a world keeps: the memo's keys are distinct, each entry is exact for its key, and each session keeps what a session keeps
+pub record IsWorld (w : World) : Type 0 where
+  pub differ : KeysDiffer w.memo
+  pub entries : (e : Entry) → In e w.memo → IsEntry e
+  pub sessions : (s : MonitorSession) → In s w.sessions → IsMonitorSession s
+
+-- an event whose sample, where it has one, has its numbers in lowest terms
+abbrev pub IsEvent : Event → Type 0
+IsEvent (Begin i sample) = IsSample (length sample.cells) sample
+IsEvent (LookHit i) = ⊤
+IsEvent (LookMiss i) = ⊤
+IsEvent (Fill i) = ⊤
+IsEvent (Put i) = ⊤
+IsEvent (Finish i) = ⊤

@@ -10,10 +10,12 @@ ghost use Rattle.run_specs.specs.Automaton.{Automaton, Location, tolerance_at, w
 ghost use Rattle.run_specs.specs.WellFormed.{IsLocation};
 ghost use Rattle.run_specs.specs.Logs.{Sample, IsPassing, cell_at};
 ghost use Rattle.run_specs.specs.Runs.{Run, IsRun, IsLeg, IsJump};
-ghost use Rattle.run_specs.specs.Stages.{leg_slope, leg_point, leg_rows, jump_point, jump_rows, sample_rows, rows_after, leg_stage, jump_stage, gap_rows};
-ghost use Rattle.run_specs.specs.Ends.{SomeLegEnds, SomeJumpEnds};
+ghost use Rattle.run_specs.specs.Stages.{leg_slope, leg_point, leg_rows, jump_point, jump_rows, sample_rows, rows_after, leg_stage, jump_stage, sample_stage, gap_rows};
+ghost use Rattle.run_specs.specs.Ends.{SomeLegEnds, SomeJumpEnds, SomeSampleEnds};
 ghost use Rattle.run_specs.specs.Passes.{LogPasses, OpeningPasses};
 ghost use Rattle.run_specs.specs.Verdicts.{IsLawful, AreLawful, NoOverflow};
+
+pub mod histories;
 
 /// The reply to a sample.
 #[derive(Clone, Copy, Debug, PartialEq, Eq)]
@@ -62,6 +64,18 @@ pub fn same_replies()
         AreLawful a k log vs → AreLawful a k log ws → vs ≡ ws }
 {}
 
+/// A log that does not pass has at most one lawful reply.
+pub fn one_verdict()
+    ensures { (a : Automaton) (k : ℕ) (log : List Sample) (v w : Verdict) → (LogPasses a k log → ⊥) →
+        IsLawful a k log v → IsLawful a k log w → v ≡ w }
+{}
+
+/// And at most one list of lawful replies.
+pub fn one_list_of_verdicts()
+    ensures { (a : Automaton) (k : ℕ) (log : List Sample) (vs ws : List Verdict) → (LogPasses a k log → ⊥) →
+        AreLawful a k log vs → AreLawful a k log ws → vs ≡ ws }
+{}
+
 /// A leg of length 0, read as a system, has equal ends: the boxes say so.
 pub fn still_leg()
     ensures { (m : ℕ) (loc : Location) (d : ℤ) (q : List ℤ) (elapsed : ℤ) (p : List ℤ) → IsLocation m loc → length q ≡ m → length p ≡ m →
@@ -106,4 +120,12 @@ pub fn jump_stage_is_exact()
         AllWide (width a + width a) (transition_at a e).relation → AllWide (width a) (location_at a (transition_at a e).target).invariant →
         AllWide (width a + 1) state → pos 0 <ℤ d → length end ≡ width a + 1 →
         AllHold (rows_after (jump_stage a e state)) (over d end) ↔ SomeJumpEnds a e state (over d end) }
+{}
+
+/// The rows after a sample hold exactly at the points of the state that pass it when the gap's length has elapsed.
+pub fn sample_stage_is_exact()
+    ensures { (a : Automaton) (duration : Fraction) (cells : List (Option Fraction)) (state : List Row) (d : ℤ) (end : List ℤ) →
+        ((j : ℕ) → IsFraction (tolerance_at a j)) → ((j : ℕ) (x : Fraction) → cell_at j cells ≡ Some x → IsFraction x) →
+        length cells ≡ width a → AllWide (width a + 1) state → pos 0 <ℤ d → length end ≡ width a →
+        AllHold (rows_after (sample_stage a duration cells state)) (over d end) ↔ SomeSampleEnds a duration cells state (over d end) }
 {}
