@@ -1,4 +1,5 @@
 pub mod Names
 pub mod Models
 pub mod Rows
+pub mod Steps
 pub mod Report

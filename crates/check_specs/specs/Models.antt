@@ -108,13 +108,13 @@ automaton_of m = record {
   variables = m.variable ∷ [];
   obs = zero_fraction ∷ [];
   locations =
-    record {
-      name = m.location;
-      is_unsafe = m.is_unsafe;
-      init = Some (bound_rows m.init);
-      invariant = bound_rows m.invariant;
-      slopes = slope_rows m.slopes;
-    }
-    ∷ [];
+      record {
+        name = m.location;
+        is_unsafe = m.is_unsafe;
+        init = Some (bound_rows m.init);
+        invariant = bound_rows m.invariant;
+        slopes = slope_rows m.slopes;
+      }
+      ∷ [];
   transitions = [];
 }

@@ -10,30 +10,34 @@ use Rattle.check_specs.specs.Names.{is_digit}
 
 -- one digit or more
 abbrev pub are_digits : List ℕ → Bool
-are_digits bytes = nat_le 1 (length bytes) && list_all is_digit bytes
+are_digits [] = false
+are_digits (b ∷ bytes) = list_all is_digit (b ∷ bytes)
 
--- digits, as a whole number
-abbrev pub whole_number : List ℕ → Option Fraction
-whole_number digits =
-    if are_digits digits && nat_le (length digits) 9 then Some (record { num = pos (digits_value 10 digits); den = pos 1 }) else None
+-- the value of one to nine digits
+abbrev pub digits_of : List ℕ → Option ℕ
+digits_of bytes = if are_digits bytes && nat_le (length bytes) 9 then Some (digits_value 10 bytes) else None
 
--- digits before a point, and digits after it
+-- n over d, in lowest terms
+abbrev pub fraction_of : ℕ → ℕ → Fraction
+fraction_of n d = lowest (record { num = pos n; den = pos d })
+
+abbrev pub whole_number : Option ℕ → Option Fraction
+whole_number None = None
+whole_number (Some n) = Some (fraction_of n 1)
+
+-- a number with so many decimals
+abbrev pub with_decimals : ℕ → Option ℕ → Option ℕ → Option Fraction
+with_decimals places (Some whole) (Some decimals) = Some (fraction_of (whole * 10 ^ places + decimals) (10 ^ places))
+with_decimals places (Some whole) None = None
+with_decimals places None decimals = None
+
+-- digits before a point, and digits after it, nine at most in all
 abbrev pub pointed_number : List ℕ → List ℕ → Option Fraction
-pointed_number digits decimals =
-    if are_digits digits && are_digits decimals && nat_le (length digits + length decimals) 9
-    then Some (lowest (record { num = pos (digits_value 10 digits * 10 ^ length decimals + digits_value 10 decimals); den = pos (10 ^ length decimals) }))
-    else None
-
--- the pieces before and after the first byte of this value
-pub record Pieces : Type 0 where
-  pub before : List ℕ
-  pub after : List ℕ
-
-abbrev pub pieces_at : List ℕ → ℕ → Pieces
-pieces_at bytes i = record { before = take i bytes; after = drop (i + 1) bytes }
+pointed_number whole decimals =
+    if nat_le (length whole + length decimals) 9 then with_decimals (length decimals) (digits_of whole) (digits_of decimals) else None
 
 abbrev pub unsigned_at : List ℕ → Option ℕ → Option Fraction
-unsigned_at bytes None = whole_number bytes
+unsigned_at bytes None = whole_number (digits_of bytes)
 unsigned_at bytes (Some i) = pointed_number (take i bytes) (drop (i + 1) bytes)
 
 -- digits with at most one point between them, nine digits at most

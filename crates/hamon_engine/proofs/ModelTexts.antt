@@ -76,8 +76,8 @@ pub range_text : (text variable rest range front : List ℕ) (s : Slopes) → te
 range_text text variable rest range front s e f g is = record {
   slopes = is.slopes;
   spelled =
-    append_cancel_right front (signed_decimal s.lowest ++ (codes ", " ++ signed_decimal s.highest)) (codes "]")
-    (sym g ∙ range_inside text variable rest range s e f is);
+      append_cancel_right front (signed_decimal s.lowest ++ (codes ", " ++ signed_decimal s.highest)) (codes "]")
+      (sym g ∙ range_inside text variable rest range s e f is);
 }
 
 pub slopes_same : (low high : ℤ) (s : Slopes) → low ≡ s.lowest → high ≡ s.highest → Some (record { lowest = low; highest = high }) ≡ Some s

@@ -1,13 +1,17 @@
 -- Numbers and their digits.
-use Rattle.std.proofs.Common.{◌≡◌, ℕ, ◌<◌, ◌^◌, List, Result, Ok, arith, ℤ, pos, negsuc, subst, sym, w64, rules}
+use Rattle.std.proofs.Common.{◌≡◌, ℕ, ◌<◌, ◌≤◌, ◌^◌, List, [], ◌∷◌, length, false, true, IsTrue, Result, Ok, arith, ℤ, pos, negsuc, subst, sym, w64, rules}
 use mir.Val.{to_z, of_z, SFits}
-
 use Rattle.std.proofs.lemmas.Int.{ints, to_z-of_z}
-use Rattle.std.proofs.lemmas.Fmt.{parse-signed_decimal, IsAscii-signed}
+use Rattle.std.proofs.lemmas.Fmt.{parse-signed_decimal, IsAscii-signed, IsAscii-from_digits}
 use Rattle.std.proofs.lemmas.Str.{IsUtf8-from_ascii}
 use Rattle.std.specs.Fmt.{signed_decimal}
 use Rattle.std.specs.Str.{IsUtf8, IsAscii}
-use Rattle.std.specs.Str.Parse.{ParsesSigned}
+use Rattle.std.specs.Str.Parse.{ParsesSigned, ParsesUnsigned, digits_value}
+use Rattle.std.specs.List.{list_all}
+use Rattle.std.proofs.lemmas.Str.Parse.{IsNumeralModel, numerals_by_value, parse_gives, digits_value_short}
+use Rattle.std.proofs.lemmas.Int.Digits.{digits_value-lt}
+use Rattle.check_specs.specs.Names.{is_digit}
+use Rattle.check_specs.specs.Rows.{are_digits}
 use Rattle.std.specs.Int.RustNames.{FitsSigned}
 use Rattle.std.specs.Int.Signed.{mag}
 use Rattle.check_specs.specs.Models.{IsShort}
@@ -32,3 +36,25 @@ short_parses n bytes r h e p = parse-signed_decimal w64 n bytes r (short_fits n 
 
 pub short_stays : (n : ℤ) → IsShort n → to_z w64 (of_z w64 n) ≡ n
 short_stays n h = to_z-of_z w64 n (short_sfits n h)
+
+-- ---- digits of a log
+
+-- digits alone, and what they are worth
+own : IsNumeralModel (λ ds. list_all is_digit ds ≡ true) (digits_value 10)
+own = numerals_by_value (λ ds. list_all is_digit ds ≡ true) (search rules)
+
+digits_parts : (bytes : List ℕ) → IsTrue (are_digits bytes) → (0 < length bytes) × (list_all is_digit bytes ≡ true)
+digits_parts [] h = let no : false ≡ true = h in cc
+digits_parts (b ∷ bytes) h = (omega arith, h)
+
+pub digits_are_utf8 : (bytes : List ℕ) → IsTrue (are_digits bytes) → IsUtf8 bytes
+digits_are_utf8 bytes h = IsUtf8-from_ascii bytes (IsAscii-from_digits bytes (own.to bytes (digits_parts bytes h).1))
+
+pub digits_are_small : (bytes : List ℕ) → IsTrue (are_digits bytes) → digits_value 10 bytes < 10 ^ length bytes
+digits_are_small bytes h = digits_value-lt 10 bytes (own.to bytes (digits_parts bytes h).1)
+
+pub digits_parse : {E : Type 0} (bytes : List ℕ) (r : Result ℕ E) → IsTrue (are_digits bytes) → length bytes ≤ 9 → ParsesUnsigned 64 10 bytes r →
+    r ≡ Ok (digits_value 10 bytes)
+digits_parse bytes r h l p =
+    let parts = digits_parts bytes h in
+    parse_gives own 64 bytes r p parts.1 parts.0 (omega (arith, digits_value_short own bytes 9 parts.1 l))

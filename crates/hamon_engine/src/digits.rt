@@ -1,20 +1,10 @@
 //! Whole numbers in a text.
-ghost use Rattle.std.specs.Prelude.{◌≡◌, ◌≢◌, ◌↔◌, ℤ, Some, IsTrue, IfSome, MatchOption};
+ghost use Rattle.std.specs.Prelude.{◌≡◌, ◌≢◌, ◌↔◌, ℤ, Some, IsTrue, IfSome};
 ghost use Rattle.std.specs.Fmt.{signed_decimal};
-ghost use Rattle.std.specs.Str.{IsUtf8};
 ghost use Rattle.check_specs.specs.Models.{IsShort};
 
+use crate::pieces::utf8;
 use itoa::Buffer;
-
-/// The bytes as text, if they are UTF-8.
-fn utf8(bytes: &[u8]) -> Option<&str>
-    ensures { MatchOption result (IsUtf8 bytes.now → ⊥) (λ text. text.now ≡ bytes.now) }
-{
-    match std::str::from_utf8(bytes) {
-        Ok(text) => Some(text),
-        Err(_) => None,
-    }
-}
 
 /// A number that these bytes may be the digits of.
 fn candidate(bytes: &[u8]) -> Option<i64>

@@ -1,9 +1,10 @@
 //! The monitor's top call: reads its words, a model and a log, and writes the report.
 #![tactic(auto)]
 
+mod digits;
 mod model;
 mod model_text;
-mod digits;
 mod names;
+mod numbers;
 mod pieces;
 mod words;

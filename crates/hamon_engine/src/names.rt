@@ -10,11 +10,18 @@ fn is_letter(b: u8) -> bool
     matches!(b, b'A'..=b'Z' | b'a'..=b'z')
 }
 
+/// Whether a byte is a digit.
+pub(crate) fn is_digit(b: u8) -> bool
+    ensures { result ≡ names.is_digit b }
+{
+    b.is_ascii_digit()
+}
+
 /// Whether a byte may stand in a name.
 fn is_word_byte(b: u8) -> bool
     ensures { result ≡ names.is_word_byte b }
 {
-    is_letter(b) || matches!(b, b'0'..=b'9') || b == b'_'
+    is_letter(b) || is_digit(b) || b == b'_'
 }
 
 /// Whether a name may begin so.

@@ -1,5 +1,6 @@
 //! Pieces of a text.
-ghost use Rattle.std.specs.Prelude.{◌≡◌, ◌≢◌, ℕ, ◌<◌, List, ◌++◌, length, take, slice_index, IfSome, IfNone, MatchOption};
+ghost use Rattle.std.specs.Prelude.{◌≡◌, ◌≢◌, ℕ, ◌<◌, List, ◌++◌, length, take, slice_index, IfSome, IfNone, MatchOption, position, ◌==◌};
+ghost use Rattle.std.specs.Str.{IsUtf8};
 ghost use Rattle.hamon_engine.specs.Pieces.{Lacks, IsSplit, IsLabelled, GivesHalves};
 
 use memchr::memchr;
@@ -24,6 +25,20 @@ fn first_place(text: &[u8], byte: u8) -> Option<usize>
     ensures some { IfSome result (λ at. (at < length text.now) × (slice_index text.now at ≡ byte) × Lacks byte (take at text.now)) }
 {
     memchr(byte, text)
+}
+
+/// Where a byte of this value stands first, as the iterators' `position` has it.
+pub(crate) fn place_of(text: &[u8], byte: u8) -> Option<usize>
+    ensures { result ≡ position (λ b. b == byte) text.now }
+{
+    text.iter().position(|b| *b == byte)
+}
+
+/// The bytes as text, if they are UTF-8.
+pub(crate) fn utf8(bytes: &[u8]) -> Option<&str>
+    ensures { MatchOption result (IsUtf8 bytes.now → ⊥) (λ text. text.now ≡ bytes.now) }
+{
+    std::str::from_utf8(bytes).ok()
 }
 
 /// What stands before and after a byte.
