@@ -3,3 +3,4 @@ pub mod Models
 pub mod Rows
 pub mod Steps
 pub mod Report
+pub mod Sizes

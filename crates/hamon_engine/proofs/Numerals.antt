@@ -1,9 +1,12 @@
 -- Numbers and their digits.
-use Rattle.std.proofs.Common.{◌≡◌, ℕ, ◌<◌, ◌≤◌, ◌^◌, List, [], ◌∷◌, length, false, true, IsTrue, Result, Ok, arith, ℤ, pos, negsuc, subst, sym, w64, rules}
+use Rattle.std.proofs.Common.{◌≡◌, ℕ, ◌<◌, ◌≤◌, ◌^◌, List, [], ◌∷◌, length, refl, ◌+◌, ◌*◌, Option, Some, false, true, IsTrue, Result, Ok, arith, ℤ, pos, negsuc, subst, sym, w64, rules}
 use mir.Val.{to_z, of_z, SFits}
 use Rattle.std.proofs.lemmas.Int.{ints, to_z-of_z}
 use Rattle.std.proofs.lemmas.Fmt.{parse-signed_decimal, IsAscii-signed, IsAscii-from_digits}
 use Rattle.std.proofs.lemmas.Str.{IsUtf8-from_ascii}
+use Rattle.std.specs.Prelude.{IfSome}
+use Rattle.std.proofs.lemmas.Nat.{pow-add}
+use Rattle.std.proofs.Math.Nat.{mul-le-mul_right, pow-le-pow_right}
 use Rattle.std.specs.Fmt.{signed_decimal}
 use Rattle.std.specs.Str.{IsUtf8, IsAscii}
 use Rattle.std.specs.Str.Parse.{ParsesSigned, ParsesUnsigned, digits_value}
@@ -58,3 +61,22 @@ pub digits_parse : {E : Type 0} (bytes : List ℕ) (r : Result ℕ E) → IsTrue
 digits_parse bytes r h l p =
     let parts = digits_parts bytes h in
     parse_gives own 64 bytes r p parts.1 parts.0 (omega (arith, digits_value_short own bytes 9 parts.1 l))
+
+pub are_digits-some : (bytes : List ℕ) → 1 ≤ length bytes → are_digits bytes ≡ list_all is_digit bytes
+are_digits-some [] h = absurd (omega (arith, h))
+are_digits-some (b ∷ bytes) h = refl
+
+pub value_is_small : (bytes : List ℕ) (o : Option ℕ) → IsTrue (are_digits bytes) → o ≡ Some (digits_value 10 bytes) → IfSome o (λ n. n < 10 ^ length bytes)
+value_is_small bytes o h e = subst (λ z. IfSome z (λ n. n < 10 ^ length bytes)) (sym e) (digits_are_small bytes h)
+
+next_times : (n x : ℕ) → (n + 1) * x ≡ n * x + x
+next_times n x = omega arith
+
+-- a number with decimals, nine digits at most in all
+pub decimals_are_small : (n d a b : ℕ) → n < 10 ^ a → d < 10 ^ b → a + b ≤ 9 → n * 10 ^ b + d < 10 ^ 9
+decimals_are_small n d a b hn hd l =
+    let up : (n + 1) * 10 ^ b ≤ 10 ^ a * 10 ^ b = mul-le-mul_right (10 ^ b) (omega (arith, hn)) in
+    let whole : 10 ^ a * 10 ^ b ≡ 10 ^ (a + b) = sym (pow-add 10 a b) in
+    let most : 10 ^ (a + b) ≤ 10 ^ 9 = pow-le-pow_right {n = 10} (omega arith) l in
+    let split : (n + 1) * 10 ^ b ≡ n * 10 ^ b + 10 ^ b = next_times n (10 ^ b) in
+    omega (arith, up, whole, most, split, hd)

@@ -2,4 +2,3 @@ pub mod Words
 pub mod Pieces
 pub mod Fields
 pub mod Parts
-pub mod Sizes

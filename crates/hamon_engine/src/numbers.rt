@@ -1,12 +1,21 @@
 //! The numbers of a log.
 ghost use Rattle.std.specs.Prelude.{◌≡◌, ℕ, ◌+◌, ◌<◌, ◌≤◌, ◌^◌, length, take, drop, option_map, position, ◌==◌, Some, IsTrue, IfSome};
 ghost use Rattle.std.specs.Str.Parse.{digits_value};
+ghost use Rattle.std.specs.List.{list_all};
+ghost use Rattle.check_specs.specs.Names.{is_digit};
 ghost use Rattle.check_specs.specs.Rows as rows;
-ghost use Rattle.hamon_engine.specs.Sizes.{IsSmall};
+ghost use Rattle.check_specs.specs.Sizes.{IsSmall};
 
 use crate::names::is_digit;
 use crate::pieces::{place_of, utf8};
 use frac128::Frac;
+
+/// Whether all bytes are digits.
+fn all_digits(bytes: &[u8]) -> bool
+    ensures { result ≡ list_all is_digit bytes.now }
+{
+    bytes.iter().all(|b| is_digit(*b))
+}
 
 /// Whether there is a digit, and nothing else.
 fn are_digits(bytes: &[u8]) -> bool
@@ -14,7 +23,7 @@ fn are_digits(bytes: &[u8]) -> bool
 {
     match bytes {
         [] => false,
-        _ => bytes.iter().all(|b| is_digit(*b)),
+        _ => all_digits(bytes),
     }
 }
 

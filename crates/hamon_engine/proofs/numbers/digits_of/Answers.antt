@@ -1,9 +1,7 @@
-use Rattle.std.proofs.Common.{rules, ◌≡◌, ℕ, ◌+◌, ◌<◌, ◌≤◌, ◌^◌, length, take, drop, option_map, position, ◌==◌, Some, IsTrue, IfSome, ◌-◌, ◌*◌, ◌/◌, ◌%◌, Bool, true, false, nat_eq, nat_lt, List, [], ◌∷◌, ◌++◌, slice_index_or, slice_set, bit_and, bit_or, Fits, w8, w32, w64, Bor, MutBor}
-use Rattle.std.specs.Str.Parse.{digits_value}
-use Rattle.check_specs.specs.Rows as rows
-use Rattle.hamon_engine.specs.Sizes.{IsSmall}
+use Rattle.std.proofs.Common.{sym}
+use Rattle.hamon_engine.proofs.Numerals.{value_is_small}
 use Rattle.hamon_engine.proofs.numbers.digits_of.Goals as goal
 
--- src/numbers.rt:32:1
 pub returns-then-bytes-le9-clause-size : goal.returns-then-bytes-le9-clause-size
-returns-then-bytes-le9-clause-size c = ?
+returns-then-bytes-le9-clause-size c =
+    let are = sym c.if-are_digits.ensures in value_is_small c.args.bytes.now c.parsed.result are (c.parsed.ensures are c.if-bytes-le9.true)

@@ -1,4 +1,4 @@
--- Numbers that are small enough for every step of a check.
+-- The sizes of the numbers of a log, and of what is computed from them.
 use Rattle.std.specs.Prelude.{◌<◌, ◌≤◌, ◌^◌, unsigned_abs}
 use Rattle.poly_specs.specs.Fractions.{Fraction}
 use Rattle.poly_specs.specs.Arithmetic.{IsKept}
