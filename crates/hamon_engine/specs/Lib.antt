@@ -2,3 +2,5 @@ pub mod Words
 pub mod Pieces
 pub mod Fields
 pub mod Parts
+pub mod Codes
+pub mod Outcome

@@ -7,4 +7,7 @@ mod model_text;
 mod names;
 mod numbers;
 mod pieces;
+pub mod status;
 mod words;
+
+pub use status::Status;

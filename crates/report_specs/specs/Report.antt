@@ -27,17 +27,7 @@ IsReportOf {K} rules lines bytes replies = (after : K) × AreBlocks rules rules.
 abbrev pub IsReport : {K : Type 0} → Rules K → List ℕ → List ℕ → List Verdict → Type 0
 IsReport rules input bytes replies = IsReportOf rules (lines_of input) bytes replies
 
--- the bytes are a report of the lines that are whole in what was read
-abbrev pub IsReportOfWhole : {K : Type 0} → Rules K → List ℕ → List ℕ → Type 0
-IsReportOfWhole rules read bytes = (replies : List Verdict) × IsReportOf rules (whole_lines read) bytes replies
-
 -- these are the first lines of what was read: whole ones, or all lines where the input ended there
 abbrev pub AreFirstLines : Type 0 → List ℕ → List (List ℕ) → Type 0
 AreFirstLines Ended read lines =
     ((others : List (List ℕ)) × (whole_lines read ≡ lines ++ others)) ⊎ (Ended × (lines ≡ lines_of read))
-
--- the bytes begin a report of the first lines of what was read
-abbrev pub BeginsReport : {K : Type 0} → Rules K → Type 0 → List ℕ → List ℕ → Type 0
-BeginsReport rules Ended read bytes =
-    (lines : List (List ℕ)) × (more : List ℕ) × (replies : List Verdict)
-    × AreFirstLines Ended read lines × IsReportOf rules lines (bytes ++ more) replies
