@@ -1,5 +1,5 @@
 -- A read into the front of a buffer is a read into the buffer.
-use Rattle.std.proofs.Common.{◌≡◌, ◌≤◌, ◌++◌, ℕ, List, length, min, take, drop, append_assoc, arith, length-take, ap, sym, ◌∙◌}
+use Rattle.std.proofs.Common.{◌≡◌, ◌≤◌, ◌++◌, ℕ, List, length, take, drop, append_assoc, arith, length-take, ap, sym, ◌∙◌}
 use Rattle.std.proofs.lemmas.List.{take-append-drop, drop-append-le}
 
 pub front_filled : (room n : ℕ) (buf left front : List ℕ) → room ≤ length buf → n ≤ room →

@@ -45,12 +45,12 @@ fn first_named<'a>(texts: &'a [(String, Vec<u8>)], name: &str) -> Option<&'a Vec
 }
 
 impl Shelf for MemShelf {
-    ghost told = { λ s name. text_named s.texts name };
+    ghost text = { λ s name. text_named s.texts name };
 
     ghost faults = { λ s. s.calls.faults };
 
     fn text(&mut self, alloc: Global, name: &str, most: usize) -> Result<Vec<u8>, ShelfFault>
-        ensures whole { IfOk result (λ text. IfSome (text_named self.old.texts name.now) (λ t. text.items ≡ t)) }
+        ensures told { IfOk result (λ text. IfSome (text_named self.old.texts name.now) (λ t. text.items ≡ t)) }
         ensures most { IfOk result (λ text. vec_len text ≤ most) }
         ensures long { IsErrOf result ShelfFault.Long → IfSome (text_named self.old.texts name.now) (λ t. most < length t) }
         ensures same { (other : List ℕ) → text_named self.new.texts other ≡ text_named self.old.texts other }

@@ -111,7 +111,7 @@ pub struct FileShelf<'a, R: Files> {
 
 impl<'a, R: Files> FileShelf<'a, R> {
     pub fn new(rt: &'a R) -> Self
-        ensures told { (name : List ℕ) → ⟦<Self as Shelf>⟧.told result name ≡ None }
+        ensures silent { (name : List ℕ) → ⟦<Self as Shelf>⟧.text result name ≡ None }
         ensures faults { ⟦<Self as Shelf>⟧.faults result ≡ 0 }
     {
         FileShelf { rt, faults: 0 }
@@ -119,15 +119,15 @@ impl<'a, R: Files> FileShelf<'a, R> {
 }
 
 impl<'a, R: Files> Shelf for FileShelf<'a, R> {
-    ghost told = { λ _ _. None };
+    ghost text = { λ _ _. None };
 
     ghost faults = { λ s. s.faults };
 
     fn text(&mut self, alloc: Global, name: &str, most: usize) -> Result<Vec<u8>, ShelfFault>
-        ensures whole { IfOk result (λ text. IfSome (⟦<Self as Shelf>⟧.told self.old name.now) (λ t. text.items ≡ t)) }
+        ensures told { IfOk result (λ text. IfSome (⟦<Self as Shelf>⟧.text self.old name.now) (λ t. text.items ≡ t)) }
         ensures most { IfOk result (λ text. vec_len text ≤ most) }
-        ensures long { IsErrOf result ShelfFault.Long → IfSome (⟦<Self as Shelf>⟧.told self.old name.now) (λ t. most < length t) }
-        ensures same { (other : List ℕ) → ⟦<Self as Shelf>⟧.told self.new other ≡ ⟦<Self as Shelf>⟧.told self.old other }
+        ensures long { IsErrOf result ShelfFault.Long → IfSome (⟦<Self as Shelf>⟧.text self.old name.now) (λ t. most < length t) }
+        ensures same { (other : List ℕ) → ⟦<Self as Shelf>⟧.text self.new other ≡ ⟦<Self as Shelf>⟧.text self.old other }
         ensures later { let faults = ⟦<Self as Shelf>⟧.faults in faults self.old ≤ faults self.new }
         ensures cause { let faults = ⟦<Self as Shelf>⟧.faults in IsErrOf result ShelfFault.Failed → Rose (faults self.old) (faults self.new) }
         ensures counted { let faults = ⟦<Self as Shelf>⟧.faults in IsErrOf result ShelfFault.Failed → faults self.new ≡ one_more (faults self.old) }
