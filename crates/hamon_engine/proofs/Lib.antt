@@ -1,3 +1,4 @@
 pub mod Splits
 pub mod Numerals
 pub mod ModelTexts
+pub mod Judgements

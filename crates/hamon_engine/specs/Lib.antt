@@ -4,3 +4,6 @@ pub mod Fields
 pub mod Parts
 pub mod Codes
 pub mod Outcome
+pub mod Blocks
+pub mod Sessions
+pub mod Turns

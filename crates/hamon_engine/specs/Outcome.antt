@@ -1,7 +1,9 @@
 -- What a status says of the bytes that were read and written.
-use Rattle.std.specs.Prelude.{◌≡◌, ◌≢◌, ◌⊎◌, ℕ, ◌^◌, ◌<◌, List, [], ◌∷◌, ◌++◌, length, take, Option, IfSome, Contains}
+use Rattle.std.specs.Prelude.{◌≡◌, ◌≢◌, ◌⊎◌, ℕ, ◌^◌, ◌<◌, ◌≤◌, Result, Ok, Err, List, [], ◌∷◌, ◌++◌, length, take, Option, IfSome, Contains}
 use Rattle.std.specs.Io.KnownBytes.{Appends, Consumes, IsAtEnd, Keeps}
 use Rattle.mon_io.specs.Faults.{Rose}
+use Rattle.mon_io.specs.declared.sink.SinkFault.{SinkFault}
+use Rattle.mon_io.specs.declared.sink.SinkFault.TheVariants.{Failed, Memory}
 use Rattle.run_specs.specs.declared.Verdict.{Verdict}
 use Rattle.run_specs.specs.declared.Verdict.TheVariants as verdict
 use Rattle.report_specs.specs.Lines.{lines_of, whole_lines}
@@ -36,10 +38,10 @@ pub record Wrote {K : Type 0} (rules : Rules K) (before now : Streams) (rest : L
 abbrev pub HasEnded : Streams → Streams → Type 0
 HasEnded before now = IfSome before.log (λ _. IsAtEnd now.log)
 
--- the log was read to its end, and the lines are all of its lines; P holds of the replies
-pub record CoversAll (before now : Streams) (P : List Verdict → Type 0) (read : List ℕ) (lines : List (List ℕ)) (replies : List Verdict) : Type 0 where
+-- the lines are all lines of what was read, which is all that the log gives; P holds of the replies
+pub record CoversAll (Ended : Type 0) (P : List Verdict → Type 0) (read : List ℕ) (lines : List (List ℕ)) (replies : List Verdict) : Type 0 where
   pub all : lines ≡ lines_of read
-  pub ended : HasEnded before now
+  pub ended : Ended
   pub below : length read < log_limit
   pub said : P replies
 
@@ -49,31 +51,40 @@ pub record CoversWhole (P : List ℕ → Type 0) (read : List ℕ) (lines : List
   pub why : P read
 
 -- the lines are the first of what was read
-abbrev pub CoversSome : Streams → Streams → List ℕ → List (List ℕ) → List Verdict → Type 0
-CoversSome before now read lines replies = AreFirstLines (HasEnded before now) read lines
-
--- a report of the whole log was written
-abbrev pub ReportsAll : {K : Type 0} → Rules K → Streams → Streams → (List Verdict → Type 0) → Type 0
-ReportsAll rules before now P = Wrote rules before now [] (CoversAll before now P)
-
--- a report of the lines that are whole in what was read was written
-abbrev pub ReportsWhole : {K : Type 0} → Rules K → Streams → Streams → (List ℕ → Type 0) → Type 0
-ReportsWhole rules before now P = Wrote rules before now [] (CoversWhole P)
-
--- the beginning of a report of the first lines was written
-abbrev pub ReportsSome : {K : Type 0} → Rules K → Streams → Streams → Type 0
-ReportsSome rules before now = (rest : List ℕ) × Wrote rules before now rest (CoversSome before now)
+abbrev pub CoversSome : Type 0 → List ℕ → List (List ℕ) → List Verdict → Type 0
+CoversSome Ended read lines replies = AreFirstLines Ended read lines
 
 -- no reply is an alarm
 abbrev pub NoAlarm : List Verdict → Type 0
 NoAlarm replies = Contains replies verdict.Alarm → ⊥
 
--- what the status of a call that reports a log says
+-- some reply is
+abbrev pub SomeAlarm : List Verdict → Type 0
+SomeAlarm replies = Contains replies verdict.Alarm
+
+-- the beginning of a report of the first lines was written
+abbrev pub ReportsSome : {K : Type 0} → Rules K → Streams → Streams → Type 0
+ReportsSome rules before now = (rest : List ℕ) × Wrote rules before now rest (CoversSome (HasEnded before now))
+
+-- what a status says of a report of which the rest is not written yet
+abbrev pub SaysBut : {K : Type 0} → Rules K → Streams → Streams → List ℕ → Status → Type 0
+SaysBut rules before now rest status.Clean = Wrote rules before now rest (CoversAll (HasEnded before now) NoAlarm)
+SaysBut rules before now rest status.Alarm = Wrote rules before now rest (CoversAll (HasEnded before now) SomeAlarm)
+SaysBut rules before now rest status.ReadFault = Wrote rules before now rest (CoversWhole (λ _. Rose before.log_faults now.log_faults))
+SaysBut rules before now rest status.Limit = Wrote rules before now rest (CoversWhole (λ read. length read ≡ log_limit))
+SaysBut rules before now rest status.WriteFault = ⊥
+SaysBut rules before now rest status.Memory = Wrote rules before now rest (CoversSome (HasEnded before now))
+SaysBut rules before now rest status.Words = ⊥
+SaysBut rules before now rest status.Model = ⊥
+
+-- what the status of a call that reports a log says. Clean and Alarm: the log was read to its end, and its report was written.
+-- ReadFault and Limit: a report of the lines that are whole in what was read was written. WriteFault and Memory: the beginning of
+-- a report of the first lines was written
 abbrev pub Says : {K : Type 0} → Rules K → Streams → Streams → Status → Type 0
-Says rules before now status.Clean = ReportsAll rules before now NoAlarm
-Says rules before now status.Alarm = ReportsAll rules before now (λ replies. Contains replies verdict.Alarm)
-Says rules before now status.ReadFault = ReportsWhole rules before now (λ _. Rose before.log_faults now.log_faults)
-Says rules before now status.Limit = ReportsWhole rules before now (λ read. length read ≡ log_limit)
+Says rules before now status.Clean = SaysBut rules before now [] status.Clean
+Says rules before now status.Alarm = SaysBut rules before now [] status.Alarm
+Says rules before now status.ReadFault = SaysBut rules before now [] status.ReadFault
+Says rules before now status.Limit = SaysBut rules before now [] status.Limit
 Says rules before now status.WriteFault = ReportsSome rules before now × Rose before.out_faults now.out_faults
 Says rules before now status.Memory = ReportsSome rules before now
 Says rules before now status.Words = ⊥
@@ -88,3 +99,9 @@ pub record IsUntouched (before now : Streams) : Type 0 where
 abbrev pub TellsLine : Option (List ℕ) → Option (List ℕ) → ℕ → ℕ → List ℕ → Type 0
 TellsLine old new faults_before faults_now line =
     (n : ℕ) × Appends old new (take n line) × (n < length line → Rose faults_before faults_now)
+
+-- what a write of pending bytes says: they are written and gone, or the first of them are
+abbrev pub WriteSays : Option (List ℕ) → Option (List ℕ) → ℕ → ℕ → List ℕ → List ℕ → Result Unit SinkFault → Type 0
+WriteSays old new faults_before faults_now before after (Ok u) = Appends old new before × (after ≡ []) × (faults_before ≤ faults_now)
+WriteSays old new faults_before faults_now before after (Err Failed) = ((n : ℕ) × Appends old new (take n before)) × Rose faults_before faults_now
+WriteSays old new faults_before faults_now before after (Err Memory) = (n : ℕ) × Appends old new (take n before)

@@ -1,6 +1,7 @@
 //! The monitor's top call: reads its words, a model and a log, and writes the report.
 #![tactic(auto)]
 
+mod blocks;
 mod digits;
 mod model;
 mod model_text;
@@ -8,6 +9,9 @@ mod names;
 mod numbers;
 mod pieces;
 pub mod status;
+mod rows;
+mod session;
+mod steps_stub;
 mod words;
 
 pub use status::Status;

@@ -1,0 +1,46 @@
+-- A report in the making.
+use Rattle.std.specs.Prelude.{◌≡◌, ℕ, ◌+◌, ◌<◌, ◌≤◌, List, [], ◌∷◌, ◌++◌, length, true, Option, Some, None}
+use Rattle.std.specs.Io.KnownBytes.{Appends, Consumes}
+use Rattle.run_specs.specs.declared.Verdict.{Verdict}
+use Rattle.report_specs.specs.Report.{AreBlocks}
+use Rattle.check_specs.specs.Models.{SimpleModel}
+use Rattle.check_specs.specs.Report.{Progress, at_start, IsJudged, rules_of}
+use Rattle.log_reader.specs.Reading.{Reading, HasGiven}
+use Rattle.hamon_engine.specs.declared.session.Session.{Session}
+use Rattle.hamon_engine.specs.declared.status.Status.{Status}
+use Rattle.hamon_engine.specs.Outcome.{Streams, HasEnded, SaysBut, log_limit}
+use Rattle.hamon_engine.specs.Sessions.{Stands}
+
+-- a line of this number was judged: its block was added to the pending ones, and the session stands behind it
+pub record AddsLine (m : SimpleModel) (at : Progress) (replies : List Verdict) (number : ℕ) (line old new : List ℕ) (s : Session) : Type 0 where
+  pub block : List ℕ
+  pub here : List Verdict
+  pub next : Progress
+  pub grown : new ≡ old ++ block
+  pub judged : IsJudged m at number line block here next
+  pub stands : Stands s next (replies ++ here)
+
+-- the lines that the reader gave are reported: what was written and then what is pending
+pub record IsReporting (m : SimpleModel) (before now : Streams) (r : Reading) (s : Session) (pending : List ℕ) : Type 0 where
+  pub read : List ℕ
+  pub consumed : Consumes before.log now.log read
+  pub counted : r.taken ≡ length read
+  pub most : r.most ≡ log_limit
+  pub end : r.has_ended ≡ true → HasEnded before now
+  pub below : r.has_ended ≡ true → r.taken < r.most
+  pub lines : List (List ℕ)
+  pub given : HasGiven read r lines
+  pub count : r.given ≡ length lines
+  pub at : Progress
+  pub replies : List Verdict
+  pub written : List ℕ
+  pub blocks : AreBlocks (rules_of m) at_start 1 lines (written ++ pending) replies at
+  pub taken : Appends before.out now.out written
+  pub stands : Stands s at replies
+  pub log_faults : before.log_faults ≤ now.log_faults
+  pub out_faults : before.out_faults ≤ now.out_faults
+
+-- what a turn says: one line more, or how the reading ended
+abbrev pub TurnSays : SimpleModel → Streams → Streams → Reading → Session → List ℕ → Option Status → Type 0
+TurnSays m before now r s pending None = IsReporting m before now r s pending
+TurnSays m before now r s pending (Some status) = SaysBut (rules_of m) before now pending status
