@@ -1,5 +1,5 @@
 -- Models of one variable and one location: their text, and the automaton that they say.
-use Rattle.std.specs.Prelude.{◌≡◌, ℕ, ◌<◌, ◌^◌, List, [], ◌∷◌, ◌++◌, Bool, IsTrue, true, false, if◌then◌else◌, Some, ℤ, pos, negsuc, neg_ℤ, ◌≤ℤ◌, unsigned_abs, codes}
+use Rattle.std.specs.Prelude.{◌≡◌, ℕ, ◌<◌, ◌^◌, List, [], ◌∷◌, ◌++◌, Bool, IsTrue, false, if◌then◌else◌, Some, ℤ, pos, negsuc, neg_ℤ, ◌≤ℤ◌, unsigned_abs, codes}
 use Rattle.std.specs.Fmt.{signed_decimal}
 use Rattle.poly_specs.specs.Fractions.{zero_fraction}
 use Rattle.poly_specs.specs.Rows.{Row}

@@ -1,7 +1,6 @@
 -- What a line of a log does, and the report of a log.
 use Rattle.std.specs.Prelude.{◌≡◌, ◌≢◌, ℕ, List, [], ◌∷◌, ◌++◌, Bool, true, false, if◌then◌else◌, ◌*ℤ◌, int_lt, Option, Some, None, codes, decimal, bytes_eq}
 use Rattle.poly_specs.specs.Fractions.{Fraction, zero_fraction}
-use Rattle.run_specs.specs.Automaton.{Automaton}
 use Rattle.run_specs.specs.Logs.{Sample}
 use Rattle.run_specs.specs.declared.Verdict.{Verdict}
 use Rattle.run_specs.specs.declared.Verdict.TheVariants.{Alarm, Safe, Impossible, Overflow}

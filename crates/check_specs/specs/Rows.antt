@@ -1,5 +1,5 @@
 -- The lines of a log that are read so far: a header, and rows of a time and one value.
-use Rattle.std.specs.Prelude.{ℕ, ◌+◌, ◌-◌, ◌*◌, ◌^◌, List, [], ◌∷◌, ◌++◌, length, take, drop, Bool, false, ◌&&◌, ◌==◌, nat_le, if◌then◌else◌, ℤ, pos, neg_ℤ, Option, Some, None, position, codes}
+use Rattle.std.specs.Prelude.{ℕ, ◌+◌, ◌*◌, ◌^◌, List, [], ◌∷◌, ◌++◌, length, take, drop, Bool, false, ◌&&◌, ◌==◌, nat_le, if◌then◌else◌, pos, Option, Some, None, position, codes}
 use Rattle.std.specs.List.{list_all}
 use Rattle.std.specs.Str.Parse.{digits_value}
 use Rattle.poly_specs.specs.Fractions.{Fraction, opposite}

@@ -1,6 +1,8 @@
 //! What `hamon check` reads and writes: a model of one variable and one location, and the lines of its log.
 #![tactic(auto)]
 
+pub mod steps;
+
 /// How a variable compares with a number.
 #[derive(Clone, Copy, Debug, PartialEq, Eq)]
 pub enum Comparison {

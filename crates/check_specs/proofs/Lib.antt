@@ -1,0 +1,5 @@
+pub mod CompareLemmas
+pub mod RowLemmas
+pub mod GapLemmas
+pub mod StepLemmas
+pub mod VerdictLemmas
