@@ -1,14 +1,14 @@
 -- No number on the way to a difference of two numbers of a log, or to a slope times such a difference, passes 128 bits.
-use Rattle.std.proofs.Common.{◌≡◌, ℕ, zero, suc, ◌+◌, ◌-◌, ◌*◌, ◌/◌, ◌<◌, ◌≤◌, ◌^◌, List, [], ◌∷◌, Option, Some, None, SomeIff, IsSome, refl, sym, ap, ◌∙◌, subst, arith, ℤ, pos, negsuc, ◌+ℤ◌, ◌-ℤ◌, ◌*ℤ◌, neg_ℤ, unsigned_abs, int_div}
+use Rattle.std.proofs.Common.{◌≡◌, ℕ, suc, ◌+◌, ◌-◌, ◌*◌, ◌/◌, ◌<◌, ◌≤◌, ◌^◌, Option, Some, None, SomeIff, IsSome, refl, arith, ℤ, pos, negsuc, ◌+ℤ◌, ◌-ℤ◌, ◌*ℤ◌, neg_ℤ, unsigned_abs, int_div}
 use Rattle.std.proofs.Math.Nat.{mul-le-mul, div-le_self}
 use Rattle.std.proofs.lemmas.Int.{ints, unsigned_abs-mul}
 use Rattle.std.proofs.lemmas.List.Elements.{All-from_recursion}
 use Rattle.poly_specs.proofs.IntLemmas.{product_positive}
 use Rattle.poly_specs.proofs.LowestLemmas.{lowest-IsKept, lowest-no_larger}
-use Rattle.poly_specs.specs.Arithmetic.{lowest, left_factor, right_factor, sum_numbers, crossed_num, crossed_den, product_numbers, IsKept}
+use Rattle.poly_specs.specs.Arithmetic.{lowest, left_factor, right_factor, sum_numbers, crossed_num, crossed_den, product_numbers}
 use Rattle.poly_specs.specs.Bits.{FitsBits, NonePasses}
 use Rattle.poly_specs.specs.Elimination.{gcd}
-use Rattle.poly_specs.specs.Fractions.{Fraction, IsFraction, difference, opposite, product_of}
+use Rattle.poly_specs.specs.Fractions.{Fraction, IsFraction, difference, opposite}
 use Rattle.check_specs.specs.Models.{IsShort}
 use Rattle.check_specs.specs.Sizes.{IsSmall, IsMedium}
 use Rattle.check_specs.specs.Steps.{whole}
@@ -38,6 +38,16 @@ size_opposite a = omega (arith, ints)
 size_quotient : (a : ℤ) (g : ℕ) → unsigned_abs (int_div a (pos g)) ≤ unsigned_abs a
 size_quotient (pos n) g = div-le_self n g
 size_quotient (negsuc n) g = rw (size_opposite (pos (suc n / g))) (div-le_self (suc n) g)
+
+-- small numbers stay so in lowest terms
+pub lowest-IsSmall : (x : Fraction) → IsFraction x → unsigned_abs x.num < 10 ^ 9 → unsigned_abs x.den ≤ 10 ^ 9 → IsSmall (lowest x)
+lowest-IsSmall x h n d =
+    let no_larger = lowest-no_larger x h in
+    record {
+      kept = lowest-IsKept x h (omega arith) (omega arith);
+      num = omega (arith, no_larger.0);
+      den = omega (arith, no_larger.1);
+    }
 
 -- ---- a difference
 

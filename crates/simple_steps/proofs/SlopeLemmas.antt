@@ -1,5 +1,5 @@
 -- Comparisons of fractions in lowest terms say the same of the plain ones.
-use Rattle.std.proofs.Common.{◌≡◌, ◌↔◌, sym, ap, ◌∙◌, subst, arith, ℤ, pos, ◌+ℤ◌, ◌*ℤ◌, ◌≤ℤ◌, ◌<ℤ◌}
+use Rattle.std.proofs.Common.{◌≡◌, ◌↔◌, sym, ap, ◌∙◌, arith, ℤ, pos, ◌*ℤ◌}
 use Rattle.std.proofs.lemmas.Int.{ints}
 use Rattle.poly_specs.proofs.FractionLemmas.{AtMost-trans, same-AtMost, same-trans}
 use Rattle.poly_specs.proofs.IntLemmas.{products, product_positive}

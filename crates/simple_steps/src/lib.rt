@@ -90,6 +90,13 @@ pub fn slopes_allow(slopes: Slopes, from: &Reading, to: &Reading) -> bool
 mod tests {
     use super::*;
 
+    /// So many tenths.
+    fn tenths(number: i16) -> Frac
+        ensures { IsSmall result }
+    {
+        Frac::make(i128::from(number), 10)
+    }
+
     #[test]
     fn meets_bounds(rt: HostRuntime) {
         // What each comparison with 2 says of -2, 1.9, 2 and 2.1.
@@ -102,11 +109,37 @@ mod tests {
                 comparison,
                 number: 2,
             };
-            let found = [(-2, 1), (19, 10), (2, 1), (21, 10)].map(|(num, den)| bound_allows(
-                bound,
-                &Frac::make(num, den),
-            ));
+            let found = [-20, 19, 20, 21].map(|number| bound_allows(bound, &tenths(number)));
             assert_eq!(rt; found, wanted);
+        }
+    }
+
+    #[test]
+    fn follows_slopes(rt: HostRuntime) {
+        let slopes = Slopes {
+            lowest: -1,
+            highest: 2,
+        };
+        // In tenths: two times and the values at them. Floating point would refuse the last step.
+        for (from, to, wanted) in [
+            ((0, 0), (30, 60), true),
+            ((0, 0), (30, 65), false),
+            ((0, 0), (30, -30), true),
+            ((0, 0), (30, -35), false),
+            ((0, 7), (0, 7), true),
+            ((0, 7), (0, 8), false),
+            ((1, 2), (2, 4), true),
+            ((1, 0), (3, 4), true),
+        ] {
+            let from = Reading {
+                time: tenths(from.0),
+                value: tenths(from.1),
+            };
+            let to = Reading {
+                time: tenths(to.0),
+                value: tenths(to.1),
+            };
+            assert_eq!(rt; slopes_allow(slopes, &from, &to), wanted);
         }
     }
 }
