@@ -2,3 +2,5 @@ pub mod Splits
 pub mod Numerals
 pub mod ModelTexts
 pub mod Judgements
+pub mod LongLines
+pub mod Added

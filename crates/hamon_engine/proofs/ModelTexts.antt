@@ -1,5 +1,5 @@
 -- The parts of a model's text are found where they stand.
-use Rattle.std.proofs.Common.{◌≡◌, ◌≢◌, ℕ, suc, ◌<◌, ◌^◌, List, [], ◌∷◌, ◌++◌, append_assoc, Bool, true, false, ◌&&◌, not, nat_le, bytes_eq, length, IsTrue, cond, Option, Some, None, codes, refl, sym, ◌∙◌, ap, subst, arith, ℤ, pos, negsuc, rules}
+use Rattle.std.proofs.Common.{◌≡◌, ◌≢◌, ℕ, suc, ◌<◌, ◌≤◌, ◌^◌, List, [], ◌∷◌, ◌++◌, append_assoc, Bool, true, false, ◌&&◌, not, nat_le, bytes_eq, length, IsTrue, cond, Option, Some, None, codes, refl, sym, ◌∙◌, ap, subst, arith, ℤ, pos, negsuc, rules}
 use Rattle.std.specs.Prelude.{IsSomeAnd}
 use Rattle.std.specs.Fmt.{signed_decimal, decimal}
 use Rattle.std.specs.Str.Parse.{AllDigits}
@@ -8,6 +8,7 @@ use Rattle.std.proofs.lemmas.Fmt.{decimal_is_IsNumeral}
 use Rattle.std.proofs.lemmas.Str.Parse.{digit_from_value}
 use Rattle.std.proofs.lemmas.List.{append_cancel_left, append_cancel_right, append-nil}
 use Rattle.std.proofs.Math.Bool.{and-false}
+use Rattle.std.proofs.lemmas.Bool.{leb-true}
 use Rattle.std.proofs.lemmas.List.Elements.{All-from_recursion}
 use Rattle.check_specs.specs.declared.Bound.{Bound}
 use Rattle.check_specs.specs.declared.Slopes.{Slopes}
@@ -133,6 +134,16 @@ word_misses (x ∷ xs) h =
 third : (a b c d : Bool) → IsTrue (a && b && c && d) → c ≡ true
 third a b true d h = refl
 third a b false d h = absurd (no_third a b false d refl h)
+
+second : (a b c d : Bool) → IsTrue (a && b && c && d) → b ≡ true
+second a true c d h = refl
+second true false c d h = let no : false ≡ true = h in cc
+second false false c d h = let no : false ≡ true = h in cc
+
+pub name_is_short : (name : List ℕ) → IsTrue (is_name name) → length name ≤ 32
+name_is_short name h =
+    leb-true (length name) 32
+    (second (begins_as_name name) (nat_le (length name) 32) (list_all is_word_byte name) (not (list_any (bytes_eq name) keywords)) h)
 
 name_misses : (name : List ℕ) → IsTrue (is_name name) → Misses 10 name
 name_misses name h =

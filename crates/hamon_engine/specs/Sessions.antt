@@ -5,14 +5,14 @@ use Rattle.run_specs.specs.declared.Verdict.{Verdict}
 use Rattle.run_specs.specs.declared.Verdict.TheVariants as verdict
 use Rattle.run_specs.specs.Logs.{Sample}
 use Rattle.run_specs.specs.Verdicts.{IsPossible}
-use Rattle.check_specs.specs.Models.{SimpleModel, automaton_of}
+use Rattle.check_specs.specs.Models.{SimpleModel, IsSimpleModel, automaton_of}
 use Rattle.check_specs.specs.Rows.{Row}
 use Rattle.check_specs.specs.Sizes.{IsSmall}
 use Rattle.check_specs.specs.Steps.{MayStart, MayGoOn}
 use Rattle.hamon_engine.specs.Blocks.{verdict_block}
 use Rattle.check_specs.specs.Report.{Progress, sample_of}
 use Rattle.check_specs.specs.Report as report
-use Rattle.hamon_engine.specs.declared.steps_stub.Reading.{Reading}
+use Rattle.simple_steps.specs.declared.Reading.{Reading}
 use Rattle.hamon_engine.specs.declared.session.Standing.{Standing}
 use Rattle.hamon_engine.specs.declared.session.Session.{Session}
 use Rattle.hamon_engine.specs.declared.session.Judgement.{Judgement}
@@ -89,6 +89,11 @@ pub record Accepts (old : Session) (reading : Reading) (number : ℕ) (before af
 
 -- the session is at this place of its log, after these replies
 pub record Stands (s : Session) (at : Progress) (replies : List Verdict) : Type 0 where
+  pub simple : IsSimpleModel s.model
   pub header : s.has_header ≡ at.has_header
   pub last : LastStands s.model at.samples s.last
   pub alarm : IsTrue s.has_alarm ↔ Contains replies verdict.Alarm
+
+-- it is at some place, after some replies
+abbrev pub StandsSomewhere : Session → Type 0
+StandsSomewhere s = (at : Progress) × ((replies : List Verdict) × Stands s at replies)

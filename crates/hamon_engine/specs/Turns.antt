@@ -1,14 +1,21 @@
 -- A report in the making.
-use Rattle.std.specs.Prelude.{◌≡◌, ℕ, ◌+◌, ◌<◌, ◌≤◌, List, [], ◌∷◌, ◌++◌, length, true, Option, Some, None}
+use Rattle.std.specs.Prelude.{◌≡◌, ℕ, ◌+◌, ◌<◌, ◌≤◌, List, [], ◌∷◌, ◌++◌, length, Bool, true, false, Option, Some, None, Result, Ok, Err}
 use Rattle.std.specs.Io.KnownBytes.{Appends, Consumes}
 use Rattle.run_specs.specs.declared.Verdict.{Verdict}
 use Rattle.report_specs.specs.Report.{AreBlocks}
 use Rattle.check_specs.specs.Models.{SimpleModel}
 use Rattle.check_specs.specs.Report.{Progress, at_start, IsJudged, rules_of}
+use Rattle.log_reader.specs.declared.line.Line.{Line}
+use Rattle.log_reader.specs.declared.line.Line.TheVariants.{Text, Long, End}
 use Rattle.log_reader.specs.Reading.{Reading, HasGiven}
 use Rattle.hamon_engine.specs.declared.session.Session.{Session}
 use Rattle.hamon_engine.specs.declared.status.Status.{Status}
-use Rattle.hamon_engine.specs.Outcome.{Streams, HasEnded, SaysBut, log_limit}
+use Rattle.hamon_engine.specs.declared.status.Status.TheVariants as status
+use Rattle.log_reader.specs.declared.reader.ReadFault.{ReadFault}
+use Rattle.log_reader.specs.declared.reader.ReadFault.TheVariants.{Failed, Limit, Memory}
+use Rattle.mon_io.specs.declared.sink.SinkFault.{SinkFault}
+use Rattle.mon_io.specs.declared.sink.SinkFault.TheVariants as sink
+use Rattle.hamon_engine.specs.Outcome.{Streams, HasEnded, Says, SaysBut, log_limit}
 use Rattle.hamon_engine.specs.Sessions.{Stands}
 
 -- a line of this number was judged: its block was added to the pending ones, and the session stands behind it
@@ -19,6 +26,15 @@ pub record AddsLine (m : SimpleModel) (at : Progress) (replies : List Verdict) (
   pub grown : new ≡ old ++ block
   pub judged : IsJudged m at number line block here next
   pub stands : Stands s next (replies ++ here)
+
+-- what was added for what a reader gave: the block of a line, or nothing at the end
+abbrev pub AddsBlock : SimpleModel → Progress → List Verdict → Line → List ℕ → List ℕ → Session → Session → Bool → Type 0
+AddsBlock m at replies (Text number line) old new s t true = AddsLine m at replies number line.items old new t
+AddsBlock m at replies (Long number) old new s t true = (line : List ℕ) → 4096 < length line → AddsLine m at replies number line old new t
+AddsBlock m at replies End old new s t false = (new ≡ old) × (t ≡ s)
+AddsBlock m at replies (Text number line) old new s t false = ⊥
+AddsBlock m at replies (Long number) old new s t false = ⊥
+AddsBlock m at replies End old new s t true = ⊥
 
 -- the lines that the reader gave are reported: what was written and then what is pending
 pub record IsReporting (m : SimpleModel) (before now : Streams) (r : Reading) (s : Session) (pending : List ℕ) : Type 0 where
@@ -44,3 +60,24 @@ pub record IsReporting (m : SimpleModel) (before now : Streams) (r : Reading) (s
 abbrev pub TurnSays : SimpleModel → Streams → Streams → Reading → Session → List ℕ → Option Status → Type 0
 TurnSays m before now r s pending None = IsReporting m before now r s pending
 TurnSays m before now r s pending (Some status) = SaysBut (rules_of m) before now pending status
+
+-- the reader gave one line more, and may get as many bytes as before
+pub record GivesOne (old new : Reading) : Type 0 where
+  pub given : new.given ≡ old.given + 1
+  pub most : new.most ≡ old.most
+
+-- the status of a reading that failed
+abbrev pub status_for : ReadFault → Status
+status_for Failed = status.ReadFault
+status_for Limit = status.Limit
+status_for Memory = status.Memory
+
+-- the status of a write that failed
+abbrev pub write_status_for : SinkFault → Status
+write_status_for sink.Failed = status.WriteFault
+write_status_for sink.Memory = status.Memory
+
+-- how the reading ended, with the rest to be written yet; or how a write failed
+abbrev pub LinesSay : SimpleModel → Streams → Streams → List ℕ → Result Status SinkFault → Type 0
+LinesSay m before now rest (Ok status) = SaysBut (rules_of m) before now rest status × (before.out_faults ≤ now.out_faults)
+LinesSay m before now rest (Err fault) = Says (rules_of m) before now (write_status_for fault)

@@ -2,6 +2,7 @@
 #![tactic(auto)]
 
 mod blocks;
+mod check;
 mod digits;
 mod model;
 mod model_text;
@@ -11,7 +12,6 @@ mod pieces;
 pub mod status;
 mod rows;
 mod session;
-mod steps_stub;
 mod words;
 
 pub use status::Status;

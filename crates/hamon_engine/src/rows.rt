@@ -6,7 +6,7 @@ ghost use Rattle.hamon_engine.specs.Sessions.{row_of};
 
 use crate::numbers::number_of;
 use crate::pieces::place_of;
-use crate::steps_stub::Reading;
+use simple_steps::Reading;
 
 /// Reads `TIME,VALUE`.
 pub(crate) fn read_row(line: &[u8]) -> Option<Reading>

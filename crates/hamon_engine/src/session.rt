@@ -1,5 +1,5 @@
 //! A session: what was accepted of its log, and whether a run passes that.
-ghost use Rattle.std.specs.Prelude.{◌≡◌, ◌↔◌, ℕ, List, [], ◌++◌, IsTrue, IfSome, OnOk, OnErr, if◌then◌else◌, bytes_eq};
+ghost use Rattle.std.specs.Prelude.{◌≡◌, ◌↔◌, ◌<◌, ℕ, length, List, [], ◌++◌, IsTrue, IfSome, OnOk, OnErr, if◌then◌else◌, bytes_eq};
 ghost use Rattle.run_specs.specs.declared.Verdict.{Verdict};
 ghost use Rattle.run_specs.specs.declared.Verdict.TheVariants as verdict;
 ghost use Rattle.run_specs.specs.Logs.{Sample};
@@ -9,17 +9,19 @@ ghost use Rattle.check_specs.specs.Models.{IsSimpleModel};
 ghost use Rattle.check_specs.specs.Sizes.{IsSmall};
 ghost use Rattle.check_specs.specs.Steps.{MayStart, MayGoOn};
 ghost use Rattle.check_specs.specs.Report as report;
+ghost use Rattle.hamon_engine.specs.declared.status.Status.TheVariants as status;
 ghost use Rattle.hamon_engine.specs.Turns.{AddsLine};
-ghost use Rattle.hamon_engine.specs.Sessions.{row_of, shown, LastStands, Stands, IsAccepted, IsAcceptable, IsPossibleAfter, Accepts, verdict_for};
+ghost use Rattle.hamon_engine.specs.Sessions.{row_of, shown, LastStands, Stands, StandsSomewhere, IsAccepted, IsAcceptable, IsPossibleAfter, Accepts, verdict_for};
 
 use crate::blocks::{add_refusal, add_verdict};
 use crate::model::SimpleModel;
 use crate::pieces::after;
 use crate::rows::read_row;
+use crate::status::Status;
 use check_specs::Refusal;
 use frac128::Frac;
 use run_specs::Verdict;
-use crate::steps_stub::{Reading, bound_allows, slopes_allow};
+use simple_steps::{Reading, bound_allows, slopes_allow};
 use std::alloc::{AllocError, Global};
 use std::cmp::Ordering;
 
@@ -197,7 +199,8 @@ impl Session {
 
     /// Judges a line, and adds its block to the pending ones. After an error nothing has changed.
     pub(crate) fn add_line(&mut self, alloc: Global, number: u64, line: &[u8], pending: &mut Vec<u8>) -> Result<(), AllocError>
-        requires stands { (at : report.Progress) × ((replies : List Verdict) × Stands self.old at replies) }
+        requires { StandsSomewhere self.old }
+        ensures stands { StandsSomewhere self.new }
         ensures ok { OnOk result ((at : report.Progress) (replies : List Verdict) → Stands self.old at replies →
             AddsLine self.old.model at replies number line.now pending.old.items pending.new.items self.new) }
         ensures err { OnErr result ((pending.new.items ≡ pending.old.items) × (self.new ≡ self.old)) }
@@ -211,6 +214,26 @@ impl Session {
             }
             Judgement::Refused(refusal) => add_refusal(alloc, pending, number, refusal),
             Judgement::Accepted(reading) => self.accept(alloc, number, reading, pending),
+        }
+    }
+
+    /// Refuses a line of more than 4,096 bytes, which is of no form that is read. After an error nothing has changed.
+    pub(crate) fn add_long(&self, alloc: Global, number: u64, pending: &mut Vec<u8>) -> Result<(), AllocError>
+        ensures ok { OnOk result ((line : List ℕ) (at : report.Progress) (replies : List Verdict) → 4096 < length line → Stands self.now at replies →
+            AddsLine self.now.model at replies number line pending.old.items pending.new.items self.now) }
+        ensures err { OnErr result (pending.new.items ≡ pending.old.items) }
+    {
+        add_refusal(alloc, pending, number, Refusal::Later)
+    }
+
+    /// The status at the end of the log.
+    pub(crate) fn status(&self) -> Status
+        ensures { result ≡ (if self.now.has_alarm then status.Alarm else status.Clean) }
+    {
+        if self.has_alarm {
+            Status::Alarm
+        } else {
+            Status::Clean
         }
     }
 }
