@@ -1,5 +1,5 @@
 -- Where the first line feed stands, given that none is among the first bytes.
-use Rattle.std.proofs.Common.{◌≡◌, ◌≢◌, ℕ, ◌+◌, ◌<◌, ◌≤◌, List, ◌++◌, length, take, drop, slice_index, arith, sym, subst, ◌∙◌}
+use Rattle.std.proofs.Common.{◌≡◌, ◌≢◌, ℕ, ◌+◌, ◌<◌, ◌≤◌, List, ◌++◌, length, take, drop, slice_index, Option, Some, None, IfNone, arith, sym, subst, ◌∙◌}
 use Rattle.std.proofs.lemmas.List.{take-append-drop, length-drop, get_or-drop}
 use Rattle.std.proofs.lemmas.List.Elements.{All-append}
 use Rattle.std.proofs.Math.Seq.{take-add}
@@ -19,3 +19,7 @@ feed_after bytes rest n at is fits front feed =
       sym (get_or-drop n bytes at 0) ∙ here.1,
       subst HasNoFeed (sym (take-add n at bytes)) (All-append (λ b. b ≢ 10) (take n bytes) (take at (drop n bytes)) front here.2),
     )
+
+pub where_none : {X P : Type 0} → (o : Option X) → P → IfNone o P
+where_none None p = p
+where_none (Some x) p = tt

@@ -120,10 +120,8 @@ impl LineReader {
         ensures none { IfNone result (HasNoFeed self.now.held) }
         ensures some { IfSome result (λ at. (at < length self.now.held) × (slice_index self.now.held at ≡ 10) × HasNoFeed (take at self.now.held)) }
     {
-        match first_feed(bytes_from(self.held(), searched)) {
-            Some(at) => Some(searched + at),
-            None => None,
-        }
+        let at = first_feed(bytes_from(self.held(), searched))?;
+        Some(searched + at)
     }
 
     /// Drops the bytes that were given.
