@@ -2,7 +2,7 @@
 ghost use Rattle.std.specs.Prelude.{◌≡◌, ◌⊎◌, ◌↔◌, ℕ, ◌+◌, ◌<◌, ◌≤◌, List, [], ◌++◌, length, drop, take, slice_index, vec_len, Contains, true, false, IsTrue, IfOk, IfErr, IfSome, IfNone, OnOk, OnErr, IsErrOf};
 ghost use Rattle.report_specs.specs.Lines.{HasNoFeed};
 ghost use Rattle.mon_io.specs.Faults.{Rose};
-ghost use Rattle.log_reader.specs.Reading.{Gets, Gives, Fails, KeepsSource, Fills, Finds, Lacks};
+ghost use Rattle.log_reader.specs.Reading.{Gets, Gives, Fails, KeepsSource, Fills, Finds, Lacks, HoldsNoFeed};
 
 use crate::Line;
 use crate::line::{shown, unmarked, without_return};
@@ -235,6 +235,7 @@ impl LineReader {
     /// The next line of the bytes held and then those of the source. After an error the bytes got so far are held.
     pub fn next_line<L: Source>(&mut self, alloc: Global, source: &mut L) -> Result<Line, ReadFault>
         ensures gives { IfOk result (λ line. (got : List ℕ) × Gets (L.told source.old) (L.told source.new) self.old self.new got × Gives (self.old.held ++ got) self.old self.new line) }
+        ensures no_feed { IfOk result HoldsNoFeed }
         ensures fails { IfErr result (λ fault. (got : List ℕ) × Gets (L.told source.old) (L.told source.new) self.old self.new got × Fails (self.old.held ++ got) self.old self.new fault) }
         ensures later { L.faults source.old ≤ L.faults source.new }
         ensures cause { IsErrOf result ReadFault.Failed → Rose (L.faults source.old) (L.faults source.new) }

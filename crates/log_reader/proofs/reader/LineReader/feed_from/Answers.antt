@@ -13,4 +13,4 @@ pub returns-in_err-at-clause-none : goal.returns-in_err-at-clause-none
 returns-in_err-at-clause-none c =
     where_none c.from_residual.result
     (no_feed_after c.args.self.now.held c.args.searched c.requires.before
-      (subst HasNoFeed (c.bytes_from.ensures ∙ ap (λ z. drop c.args.searched z) c.held.ensures) c.in_err-at.ensures.none))
+    (subst HasNoFeed (c.bytes_from.ensures ∙ ap (λ z. drop c.args.searched z) c.held.ensures) c.in_err-at.ensures.none))
