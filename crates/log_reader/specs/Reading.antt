@@ -1,5 +1,5 @@
 -- A reader of lines, between two calls.
-use Rattle.std.specs.Prelude.{◌≡◌, ◌≢◌, ◌⊎◌, ℕ, ◌+◌, ◌<◌, ◌≤◌, List, [], ◌∷◌, ◌++◌, length, take, slice_index, Bool, true, false, Option, Some, None}
+use Rattle.std.specs.Prelude.{◌≡◌, ◌≢◌, ◌⊎◌, ℕ, ◌+◌, ◌<◌, ◌≤◌, List, [], ◌∷◌, ◌++◌, length, take, slice_index, Bool, true, false, Option, Some, None, ⊤}
 use Rattle.std.specs.Io.KnownBytes.{Consumes, IsAtEnd}
 use Rattle.report_specs.specs.Lines.{HasNoFeed, HaveNoFeed, without_return, unmarked, ended, shown_lines, lines_of}
 use Rattle.log_reader.specs.declared.line.Line.{Line}
@@ -53,9 +53,15 @@ Gives bytes old new (Long number) =
 Gives bytes old new End =
     (new.given ≡ old.given) × (new.has_ended ≡ true) × HasNoFeed bytes × (unmarked old.given bytes ≡ []) × (new.held ≡ bytes)
 
+-- the bytes of a line hold no line feed
+abbrev pub HoldsNoFeed : Line → Type 0
+HoldsNoFeed (Text number line) = HasNoFeed line.items
+HoldsNoFeed (Long number) = ⊤
+HoldsNoFeed End = ⊤
+
 -- why a call gave no line; the bytes stay
 abbrev pub Fails : List ℕ → Reading → Reading → ReadFault → Type 0
-Fails bytes old new Failed = (new.held ≡ bytes) × (new.given ≡ old.given) × HasNoFeed bytes × (new.has_ended ≡ false)
+Fails bytes old new Failed = (new.held ≡ bytes) × (new.given ≡ old.given) × HasNoFeed bytes × (new.has_ended ≡ false) × (new.taken < new.most)
 Fails bytes old new Limit = (new.held ≡ bytes) × (new.given ≡ old.given) × HasNoFeed bytes × (new.has_ended ≡ false) × (new.taken ≡ new.most)
 Fails bytes old new Memory = (new.held ≡ bytes) × (new.given ≡ old.given)
 
@@ -85,7 +91,7 @@ Finds r None = (r.has_ended ≡ true) × HasNoFeed r.held
 
 -- why there is neither a line feed nor an end
 abbrev pub Lacks : Reading → ReadFault → Type 0
-Lacks r Failed = HasNoFeed r.held × (r.has_ended ≡ false)
+Lacks r Failed = HasNoFeed r.held × (r.has_ended ≡ false) × (r.taken < r.most)
 Lacks r Limit = HasNoFeed r.held × (r.has_ended ≡ false) × (r.taken ≡ r.most)
 Lacks r Memory = HasNoFeed r.held × (r.has_ended ≡ false)
 

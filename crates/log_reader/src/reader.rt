@@ -2,7 +2,7 @@
 ghost use Rattle.std.specs.Prelude.{◌≡◌, ◌⊎◌, ◌↔◌, ℕ, ◌+◌, ◌<◌, ◌≤◌, List, [], ◌++◌, length, drop, take, slice_index, vec_len, Contains, true, false, IsTrue, IfOk, IfErr, IfSome, IfNone, OnOk, OnErr, IsErrOf};
 ghost use Rattle.report_specs.specs.Lines.{HasNoFeed};
 ghost use Rattle.mon_io.specs.Faults.{Rose};
-ghost use Rattle.log_reader.specs.Reading.{Gets, Gives, Fails, KeepsSource, Fills, Finds, Lacks};
+ghost use Rattle.log_reader.specs.Reading.{Gets, Gives, Fails, KeepsSource, Fills, Finds, Lacks, HoldsNoFeed};
 
 use crate::Line;
 use crate::line::{shown, unmarked, without_return};
@@ -53,6 +53,20 @@ fn drop_front(buffer: &mut Vec<u8>, count: usize)
     buffer.truncate(left);
 }
 
+fn bytes_from(bytes: &[u8], at: usize) -> &[u8]
+    requires { at ≤ length bytes.now }
+    ensures { result.now ≡ drop at bytes.now }
+{
+    &bytes[at..]
+}
+
+fn first_feed(bytes: &[u8]) -> Option<usize>
+    ensures none { IfNone result (HasNoFeed bytes.now) }
+    ensures some { IfSome result (λ at. (at < length bytes.now) × (slice_index bytes.now at ≡ 10) × HasNoFeed (take at bytes.now)) }
+{
+    memchr::memchr(b'\n', bytes)
+}
+
 impl LineReader {
     ghost use Rattle.std.specs.Prelude.{false};
 
@@ -74,7 +88,7 @@ impl LineReader {
     pub fn has_line(&self) -> bool
         ensures { IsTrue result ↔ Contains self.now.held 10 }
     {
-        self.feed_at().is_some()
+        self.feed_from(0).is_some()
     }
 
     /// Whether the source gave its end.
@@ -96,15 +110,18 @@ impl LineReader {
     fn held(&self) -> &[u8]
         ensures { result.now ≡ self.now.held }
     {
-        &self.buffer[self.start..]
+        bytes_from(&self.buffer, self.start)
     }
 
-    /// Where the first line feed stands among the bytes held.
-    fn feed_at(&self) -> Option<usize>
+    /// Where the first line feed stands among the bytes held, given that none is among the first of them.
+    fn feed_from(&self, searched: usize) -> Option<usize>
+        requires place { searched ≤ length self.now.held }
+        requires before { HasNoFeed (take searched self.now.held) }
         ensures none { IfNone result (HasNoFeed self.now.held) }
         ensures some { IfSome result (λ at. (at < length self.now.held) × (slice_index self.now.held at ≡ 10) × HasNoFeed (take at self.now.held)) }
     {
-        memchr::memchr(b'\n', self.held())
+        let at = first_feed(bytes_from(self.held(), searched))?;
+        Some(searched + at)
     }
 
     /// Drops the bytes that were given.
@@ -199,8 +216,9 @@ impl LineReader {
         ensures later { L.faults source.old ≤ L.faults source.new }
         ensures cause { IsErrOf result ReadFault.Failed → Rose (L.faults source.old) (L.faults source.new) }
     {
+        let mut searched = 0;
         loop {
-            if let Some(at) = self.feed_at() {
+            if let Some(at) = self.feed_from(searched) {
                 return Ok(Some(at));
             }
             if self.is_over() {
@@ -209,6 +227,7 @@ impl LineReader {
             if self.is_full() {
                 return Err(ReadFault::Limit);
             }
+            searched = self.held().len();
             self.fill(source)?;
         }
     }
@@ -216,6 +235,7 @@ impl LineReader {
     /// The next line of the bytes held and then those of the source. After an error the bytes got so far are held.
     pub fn next_line<L: Source>(&mut self, alloc: Global, source: &mut L) -> Result<Line, ReadFault>
         ensures gives { IfOk result (λ line. (got : List ℕ) × Gets (L.told source.old) (L.told source.new) self.old self.new got × Gives (self.old.held ++ got) self.old self.new line) }
+        ensures no_feed { IfOk result HoldsNoFeed }
         ensures fails { IfErr result (λ fault. (got : List ℕ) × Gets (L.told source.old) (L.told source.new) self.old self.new got × Fails (self.old.held ++ got) self.old self.new fault) }
         ensures later { L.faults source.old ≤ L.faults source.new }
         ensures cause { IsErrOf result ReadFault.Failed → Rose (L.faults source.old) (L.faults source.new) }
