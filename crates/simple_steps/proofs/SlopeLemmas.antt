@@ -15,22 +15,22 @@ AtMost-moved x y x' y' hx hy hx' hy' e f h =
     AtMost-trans x' y y' hx' hy hy' (AtMost-trans x' x y hx' hx hy (same-AtMost x x' e).1 h) (same-AtMost y y' f).0
 
 -- equal fractions compare alike
-pub AtMost-same_both : (x y x' y' : Fraction) → IsFraction x → IsFraction y → IsFraction x' → IsFraction y' →
+AtMost-same_both : (x y x' y' : Fraction) → IsFraction x → IsFraction y → IsFraction x' → IsFraction y' →
     SameFraction x x' → SameFraction y y' → (AtMost x y ↔ AtMost x' y')
 AtMost-same_both x y x' y' hx hy hx' hy' e f =
     (AtMost-moved x y x' y' hx hy hx' hy' e f, AtMost-moved x' y' x y hx' hy' hx hy (sym e) (sym f))
 
+-- a slope times a duration
 whole_times-IsFraction : (s : ℤ) (d : Fraction) → IsFraction d → IsFraction (product_of (whole s) d)
 whole_times-IsFraction s d h = product_positive (pos 1) d.den (omega (arith, ints)) h
 
--- a multiple of an equal fraction
 whole_times-same : (s : ℤ) (x y : Fraction) → SameFraction x y → SameFraction (product_of (whole s) x) (product_of (whole s) y)
 whole_times-same s x y e = left s x.num y.den ∙ ap (λ z. s *ℤ z) e ∙ sym (left s y.num x.den)
   where
     left : (s n d : ℤ) → (s *ℤ n) *ℤ (pos 1 *ℤ d) ≡ s *ℤ (n *ℤ d)
     left s n d = let one : pos 1 *ℤ d ≡ d = omega (arith, ints) in rw one (omega (arith, products))
 
--- a multiple of a duration, formed in lowest terms throughout
+-- the same, formed in lowest terms throughout
 multiple-same : (s : ℤ) (d : Fraction) → IsFraction d → SameFraction (lowest (product_of (whole s) (lowest d))) (product_of (whole s) d)
 multiple-same s d h =
     let plain = whole_times-IsFraction s d h in
@@ -41,6 +41,7 @@ multiple-same s d h =
 multiple-IsFraction : (s : ℤ) (d : Fraction) → IsFraction d → IsFraction (lowest (product_of (whole s) (lowest d)))
 multiple-IsFraction s d h = lowest-IsFraction (product_of (whole s) (lowest d)) (whole_times-IsFraction s (lowest d) (lowest-IsFraction d h))
 
+-- the rise against the lowest slope, and against the highest one
 from_below : (s : ℤ) (d rise : Fraction) → IsFraction d → IsFraction rise →
     (AtMost (lowest (product_of (whole s) (lowest d))) (lowest rise) ↔ AtMost (product_of (whole s) d) rise)
 from_below s d rise hd hr =
