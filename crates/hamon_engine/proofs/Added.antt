@@ -1,6 +1,6 @@
 -- A line that was judged adds its block.
 use Rattle.std.proofs.Common.{◌≡◌, ◌↔◌, ◌⊎◌, inl, inr, ℕ, zero, suc, ◌+◌, ◌<◌, List, [], ◌∷◌, ◌++◌, length, append_assoc, Bool, true, false, ◌||◌, Option, Some, None, IsTrue, refl, sym, ◌∙◌, ap, subst, arith}
-use Rattle.std.specs.Prelude.{Contains, slice_index_or, Result, Ok, Err, OnOk}
+use Rattle.std.specs.Prelude.{Contains, slice_index_or, Result, Ok, Err, OnOk, OnErr}
 use Rattle.std.proofs.lemmas.List.{append-nil}
 use Rattle.std.proofs.lemmas.List.Elements.{Contains-append_left, Contains-append_right, Contains-append_cases}
 use Rattle.poly_specs.specs.Fractions.{IsFraction}
@@ -22,7 +22,7 @@ use Rattle.simple_steps.specs.declared.Reading.{Reading}
 use Rattle.hamon_engine.specs.declared.session.Session.{Session}
 use Rattle.hamon_engine.specs.declared.session.Standing.{Standing}
 use Rattle.hamon_engine.specs.Blocks.{refusal_block, verdict_block}
-use Rattle.hamon_engine.specs.Sessions.{row_of, StandsAt, LastStands, Stands, FollowsOn, IsPossibleAfter, verdict_for, is_alarm, Accepts}
+use Rattle.hamon_engine.specs.Sessions.{row_of, StandsAt, LastStands, Stands, StandsSomewhere, FollowsOn, IsPossibleAfter, verdict_for, is_alarm, Accepts}
 use Rattle.hamon_engine.specs.Turns.{AddsLine}
 use Rattle.hamon_engine.proofs.LongLines.{long_later}
 
@@ -30,6 +30,11 @@ use Rattle.hamon_engine.proofs.LongLines.{long_later}
 pub on_ok : {T E P Q : Type 0} (r : Result T E) → OnOk r P → (P → Q) → OnOk r Q
 on_ok (Ok v) h f = f h
 on_ok (Err e) h f = tt
+
+-- the second part of what an error says
+pub on_err : {T E : Type 0} (P Q : Type 0) (r : Result T E) → OnErr r (P × Q) → OnErr r Q
+on_err P Q (Ok v) h = tt
+on_err P Q (Err e) h = h.1
 
 -- ---- lines without a reply
 
@@ -178,3 +183,18 @@ pub adds_long : (at : Progress) (replies : List Verdict) (number : ℕ) (line ol
     AddsLine s.model at replies number line old new s
 adds_long at replies number line old new s l grown h =
     adds_refusal s.model at replies number Later line old new s (sym (long_later s.model at line h.simple l)) grown h
+
+-- ---- the session still stands somewhere
+
+pub header_stands : (s : Session) → StandsSomewhere s → StandsSomewhere (record s { has_header = true })
+header_stands s h =
+    (record h.0 { has_header = true }, (h.1.0, record { simple = h.1.1.simple; header = refl; last = h.1.1.last; alarm = h.1.1.alarm }))
+
+pub accepted_stands : {E : Type 0} (number : ℕ) (line old new : List ℕ) (s t : Session) (reading : Reading) (r : Result Unit E) → StandsSomewhere s →
+    ((at : Progress) (replies : List Verdict) → Stands s at replies → accepted (sample_of (row_of reading)) ≡ judge s.model at line) →
+    IsSmall reading.time × IsSmall reading.value → FollowsOn s.last reading →
+    OnOk r (Accepts s reading number old new t) → OnErr r (t ≡ s) → StandsSomewhere t
+accepted_stands number line old new s t reading (Ok u) h e small follows ok err =
+    let a = adds_verdict h.0 h.1.0 number line old new s t reading (e h.0 h.1.0 h.1.1) small follows ok h.1.1 in
+    (a.next, (h.1.0 ++ a.here, a.stands))
+accepted_stands number line old new s t reading (Err f) h e small follows ok err = subst (λ z. StandsSomewhere z) (sym err) h

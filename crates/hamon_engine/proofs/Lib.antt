@@ -4,3 +4,4 @@ pub mod ModelTexts
 pub mod Judgements
 pub mod LongLines
 pub mod Added
+pub mod Progress

@@ -27,7 +27,8 @@ pub(crate) fn write_all<O: Sink>(out: &mut O, bytes: &[u8]) -> Result<(), SinkFa
 {
     let mut at = 0;
     while at < bytes.len() {
-        at += out.write(&bytes[at..])?;
+        let n = out.write(&bytes[at..])?;
+        at += n;
     }
     Ok(())
 }
