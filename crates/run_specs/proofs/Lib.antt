@@ -5,4 +5,6 @@ pub mod StageLemmas
 pub mod EndLemmas
 pub mod SampleLemmas
 pub mod SampleEnds
+pub mod MixLemmas
+pub mod MixRuns
 pub mod WorkedRow
