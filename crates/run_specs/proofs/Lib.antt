@@ -7,4 +7,5 @@ pub mod SampleLemmas
 pub mod SampleEnds
 pub mod MixLemmas
 pub mod MixRuns
+pub mod PickedLemmas
 pub mod WorkedRow
