@@ -12,3 +12,4 @@ pub mod PickExistence
 pub mod PickExamples
 pub mod GcdLemmas
 pub mod LowestLemmas
+pub mod PrimitiveLemmas

@@ -8,4 +8,5 @@ pub mod SampleEnds
 pub mod MixLemmas
 pub mod MixRuns
 pub mod PickedLemmas
+pub mod FirstRunLemmas
 pub mod WorkedRow

@@ -137,7 +137,7 @@ pub record AreNumbers (w x : ℤ) (ys zs mixes : List Fraction) : Type 0 where
   pub second : AllFractions zs
   pub mix : mixes ≡ mids w x ys zs
 
-before_numbers : (a : Automaton) (w x : ℤ) (gs hs : List GapRun) → AllZip (IsAlike a) gs hs → AreNumbers w x (numbers_before gs) (numbers_before hs) (numbers_before (mixed_gaps w x gs hs))
+pub before_numbers : (a : Automaton) (w x : ℤ) (gs hs : List GapRun) → AllZip (IsAlike a) gs hs → AreNumbers w x (numbers_before gs) (numbers_before hs) (numbers_before (mixed_gaps w x gs hs))
 before_numbers a w x [] [] is = record { long = refl; first = tt; second = tt; mix = refl }
 before_numbers a w x [] (h ∷ hs) is = absurd is
 before_numbers a w x (g ∷ gs) [] is = absurd is
@@ -153,7 +153,7 @@ before_numbers a w x (g ∷ gs) (h ∷ hs) is =
           ∙ sym (mids-append w x (numbers_before gs) (numbers_before hs) (fractions g.den (gap_back g)) (fractions h.den (gap_back h)) r.long);
     }
 
-last_numbers : (a : Automaton) (w x : ℤ) (gs hs : List GapRun) → AllZip (IsAlike a) gs hs → AreNumbers w x (last_values gs) (last_values hs) (last_values (mixed_gaps w x gs hs))
+pub last_numbers : (a : Automaton) (w x : ℤ) (gs hs : List GapRun) → AllZip (IsAlike a) gs hs → AreNumbers w x (last_values gs) (last_values hs) (last_values (mixed_gaps w x gs hs))
 last_numbers a w x [] [] is = record { long = refl; first = tt; second = tt; mix = refl }
 last_numbers a w x [] (h ∷ hs) is = absurd is
 last_numbers a w x (g ∷ gs) [] is = absurd is
