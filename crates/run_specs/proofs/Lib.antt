@@ -9,4 +9,3 @@ pub mod MixLemmas
 pub mod MixRuns
 pub mod PickedLemmas
 pub mod FirstRunLemmas
-pub mod WorkedRow
