@@ -1,6 +1,9 @@
 pub mod HistoryLemmas
 pub mod RunLemmas
 pub mod PassesLemmas
+pub mod ListLemmas
+pub mod SessionLemmas
+pub mod WorldLemmas
 pub mod StageLemmas
 pub mod EndLemmas
 pub mod SampleLemmas
