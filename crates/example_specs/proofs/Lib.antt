@@ -5,3 +5,4 @@ pub mod ShutterBounds
 pub mod WellFormed
 pub mod PickExamples
 pub mod BoundExamples
+pub mod ShutterFirst

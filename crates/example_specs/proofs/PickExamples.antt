@@ -8,7 +8,7 @@ use Rattle.example_specs.specs.Literals.{fraction, whole}
 use Rattle.example_specs.specs.Sums.{IsInside, IsUpToThird}
 
 -- no integer is strictly between 0 and 1
-none_inside : (y : Fraction) → IsFraction y → (n : ℤ) → y.num ≡ n *ℤ y.den → pos 0 <ℤ y.num → y.num <ℤ y.den → ⊥
+pub none_inside : (y : Fraction) → IsFraction y → (n : ℤ) → y.num ≡ n *ℤ y.den → pos 0 <ℤ y.num → y.num <ℤ y.den → ⊥
 none_inside y hy (pos zero) e a b = absurd (omega (arith, ints, e, a))
 none_inside y hy (pos (suc n)) e a b =
     absurd (let m = mul_le y.den (pos 1) (pos (suc n)) hy (omega (arith, ints)) in omega (arith, ints, e, b, m))

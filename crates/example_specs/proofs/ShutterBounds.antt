@@ -13,7 +13,7 @@ use Rattle.example_specs.specs.Literals.{whole, observes}
 use Rattle.example_specs.specs.Shutters.{shutter, strictly_inside}
 
 -- a leg keeps x
-leg_keeps : (l : ℕ) (d x t y : ℤ) → pos 0 <ℤ d → IsLeg (location_at shutter l) d (x ∷ []) t (y ∷ []) → y ≡ x
+pub leg_keeps : (l : ℕ) (d x t y : ℤ) → pos 0 <ℤ d → IsLeg (location_at shutter l) d (x ∷ []) t (y ∷ []) → y ≡ x
 leg_keeps zero d x t y h leg = elim (zero_or_positive t leg.lasts) [
   | inl z ↦ same_number x y (leg.still z)
   | inr m ↦ (let r = leg.straight m 0 never (lit< tt) in let s = leg.straight m 1 never (lit< tt) in omega (arith, ints))
@@ -26,7 +26,7 @@ leg_keeps (suc (suc l)) d x t y h leg =
     absurd (let n = leg.inside_before 0 never (lit< tt) in omega (arith, ints))
 
 -- and so does a jump
-jump_keeps : (e : ℕ) (d x y : ℤ) → pos 0 <ℤ d → IsJump shutter e d (x ∷ []) (y ∷ []) → y ≡ x
+pub jump_keeps : (e : ℕ) (d x y : ℤ) → pos 0 <ℤ d → IsJump shutter e d (x ∷ []) (y ∷ []) → y ≡ x
 jump_keeps zero d x y h jump = let a = jump.related 0 never (lit< tt) in let b = jump.related 1 never (lit< tt) in omega (arith, ints)
 jump_keeps (suc e) d x y h jump =
     absurd (let n = jump.related 0 never (lit< tt) in omega (arith, ints))

@@ -5,6 +5,7 @@ ghost use Rattle.std.specs.Prelude.{[], ◌∷◌};
 ghost use Rattle.run_specs.specs.declared.Verdict.TheVariants.{Alarm, Impossible};
 ghost use Rattle.run_specs.specs.WellFormed.{IsWellFormed};
 ghost use Rattle.run_specs.specs.Runs.{IsRun, VisitsUnsafe};
+ghost use Rattle.run_specs.specs.FirstRun.{IsFirstRun};
 ghost use Rattle.run_specs.specs.Verdicts.{IsLawful, IsPossible};
 ghost use Rattle.example_specs.specs.Literals.{fraction, whole, observes, blank};
 ghost use Rattle.example_specs.specs.Tanks.{tank, tank_within, rising, rising_run, steep, level, jumps_early, jumps_late, one_in_each, two_in_one};
@@ -40,6 +41,11 @@ pub fn jumps_are_counted_in_each_gap()
 /// With nothing observed the shutter's value may be 1/2, and it may have jumped.
 pub fn shutter_unobserved()
     ensures { IsRun shutter 1 (blank (whole 0) ∷ []) half_run × IsLawful shutter 1 (blank (whole 0) ∷ []) Alarm }
+{}
+
+/// That run is the first one: 1/2 is the pick of the values that are left for its end, and the rest follows.
+pub fn shutter_first_run()
+    ensures { IsFirstRun shutter 1 (blank (whole 0) ∷ []) half_run }
 {}
 
 /// The shutter's value is never 0, since its rows are strict.
