@@ -14,6 +14,7 @@ resting = row (pos 1 ∷ pos 0 ∷ []) (pos 0) ∷ row (negsuc 0 ∷ pos 0 ∷ [
 abbrev pub strictly_inside : List Row
 strictly_inside = record { coef = negsuc 0 ∷ []; cst = pos 0; strict = true } ∷ record { coef = pos 1 ∷ []; cst = negsuc 0; strict = true } ∷ []
 
+-- two locations that both rest; a run starts in the first, strictly inside
 abbrev pub shutter : Automaton
 shutter = record {
   name = codes "S";
