@@ -4,6 +4,7 @@ pub mod PassesLemmas
 pub mod ListLemmas
 pub mod SessionLemmas
 pub mod WorldLemmas
+pub mod LawfulLemmas
 pub mod StageLemmas
 pub mod EndLemmas
 pub mod SampleLemmas
