@@ -117,6 +117,9 @@ wide_eliminated w x rows hx wide = record {
 wide_at : (w from n : ℕ) (rows : List Row) → Wide w (from + suc n) rows → Wide w (suc (from + n)) rows
 wide_at w from n rows h = let e : from + suc n ≡ suc (from + n) = omega arith in subst (λ c. Wide w c rows) e h
 
+sized_on : (x w : ℕ) (p q : Point) → SameBut x p q → length p.num ≡ w → length q.num ≡ w
+sized_on x w p q same lp = sym (length-same_but x p q same) ∙ lp
+
 pub down_complete : (from n w : ℕ) (rows : List Row) (p : Point) → from + n ≤ w → Wide w (from + n) rows → length p.num ≡ w → pos 0 <ℤ p.den →
     AllHold (eliminated_each (columns_down from n) rows) p → SomeValuesHold w from rows p
 down_complete from zero w rows p h wide lp hp all = (p, record { positive = hp; sized = lp; same = refl; holds = all })
@@ -128,7 +131,7 @@ down_complete from (suc n) w rows p h wide lp hp all =
       q,
       record {
         positive = hq;
-        sized = sym (length-same_but x m q same) ∙ s.sized;
+        sized = sized_on x w m q same s.sized;
         same = SamePoint-trans (over p.den (take from p.num)) (over m.den (take from m.num)) (over q.den (take from q.num)) s.positive s.same (same_below from x m q (omega arith) same);
         holds = holds;
       },

@@ -70,7 +70,7 @@ middle-between x y hx hy h =
         let g : pos 2 *ℤ (c *ℤ (b *ℤ d)) ≡ c *ℤ (b *ℤ d) +ℤ c *ℤ (b *ℤ d) = omega (arith, ints) in
         rw (e, g, f) (omega (arith, products, h))
 
-shuffle : (a b c d : ℤ) → (a *ℤ b) *ℤ (c *ℤ d) ≡ (a *ℤ c) *ℤ (b *ℤ d)
+pub shuffle : (a b c d : ℤ) → (a *ℤ b) *ℤ (c *ℤ d) ≡ (a *ℤ c) *ℤ (b *ℤ d)
 shuffle a b c d =
     let e : b *ℤ (c *ℤ d) ≡ c *ℤ (b *ℤ d) = omega (arith, products) in
     mul_assoc_int a b (c *ℤ d) ∙ ap (λ z. a *ℤ z) e ∙ sym (mul_assoc_int a c (b *ℤ d))

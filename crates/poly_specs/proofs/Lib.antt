@@ -9,6 +9,6 @@ pub mod FractionLemmas
 pub mod ColumnLemmas
 pub mod PickLemmas
 pub mod PickExistence
-pub mod PickExamples
 pub mod GcdLemmas
 pub mod LowestLemmas
+pub mod PrimitiveLemmas

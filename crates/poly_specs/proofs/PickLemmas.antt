@@ -197,3 +197,40 @@ module _ {S : Fraction → Type 0} where
       go (inr (none, (near, far, e, a))) (inr (none', (near', far', f, b))) =
           let same = same_near near far near' far' px.some.0 px.some.1 px.some.2 none e f in
           same_end_picks near far near' far' x y is px.positive py.positive (are_fractions near far e) (are_fractions near' far' f) same.0 same.1 a b
+
+-- ---- two spellings of one set
+
+module _ {S T : Fraction → Type 0} (to : (v : Fraction) → S v → T v) (back : (v : Fraction) → T v → S v) where
+  nearest-alike : (x : Fraction) → IsNearestInteger S x → IsNearestInteger T x
+  nearest-alike x i = record { inside = to x i.inside; integer = i.integer; nearest = λ y hy t j. i.nearest y hy (back y t) j }
+
+  ends-alike : (l h : Fraction) → HasEnds S l h → HasEnds T l h
+  ends-alike l h e = record {
+    low_is = e.low_is;
+    high_is = e.high_is;
+    ordered = e.ordered;
+    outside = λ y hy t. e.outside y hy (back y t);
+    between = λ y hy a b. to y (e.between y hy a b);
+  }
+
+  are_ends-alike : (near far : Fraction) → AreEnds S near far → AreEnds T near far
+  are_ends-alike near far (inl e) = inl (e.0, ends-alike near far e.1)
+  are_ends-alike near far (inr e) = inr (e.0, ends-alike far near e.1)
+
+  end_pick-alike : (near far x : Fraction) → IsEndPick S near far x → IsEndPick T near far x
+  end_pick-alike near far x (inl e) = inl (to near e.0, e.1)
+  end_pick-alike near far x (inr (inl e)) = inr (inl (λ t. e.0 (back near t), to far e.1, e.2))
+  end_pick-alike near far x (inr (inr e)) = inr (inr (λ t. e.0 (back near t), λ t. e.1 (back far t), e.2))
+
+  pub pick-alike : (x : Fraction) → IsPick S x → IsPick T x
+  pick-alike x pick = record {
+    positive = pick.positive;
+    some = (pick.some.0, pick.some.1, to pick.some.0 pick.some.2);
+    kind = go pick.kind;
+  }
+    where
+      go : IsNearestInteger S x ⊎ (HasNoInteger S × ((near far : Fraction) × AreEnds S near far × IsEndPick S near far x)) →
+          IsNearestInteger T x ⊎ (HasNoInteger T × ((near far : Fraction) × AreEnds T near far × IsEndPick T near far x))
+      go (inl i) = inl (nearest-alike x i)
+      go (inr (none, (near, far, e, a))) =
+          inr (λ y hy t i. none y hy (back y t) i, (near, far, are_ends-alike near far e, end_pick-alike near far x a))

@@ -44,9 +44,9 @@ IsClosedAt S (Some end) = S end
 
 -- ---- the bound of a set from above
 
--- every number is exceeded
+-- every number is exceeded: there is no high end
 abbrev pub IsUnbounded : (Fraction → Type 0) → Type 0
-IsUnbounded S = (v : Fraction) → IsFraction v → HasAbove S v
+IsUnbounded S = IsHighEnd S None
 
 -- v is in the set, and nothing in it is greater
 pub record IsGreatest (S : Fraction → Type 0) (v : Fraction) : Type 0 where

@@ -1,8 +1,15 @@
 pub mod HistoryLemmas
 pub mod RunLemmas
 pub mod PassesLemmas
+pub mod ListLemmas
+pub mod SessionLemmas
+pub mod WorldLemmas
+pub mod LawfulLemmas
 pub mod StageLemmas
 pub mod EndLemmas
 pub mod SampleLemmas
 pub mod SampleEnds
-pub mod WorkedRow
+pub mod MixLemmas
+pub mod MixRuns
+pub mod PickedLemmas
+pub mod FirstRunLemmas

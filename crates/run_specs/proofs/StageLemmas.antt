@@ -38,7 +38,7 @@ dot-minus (c ∷ cs) [] (n ∷ ns) e = absurd (omega arith)
 dot-minus (c ∷ cs) (m ∷ ms) [] e = absurd (omega arith)
 dot-minus (c ∷ cs) (m ∷ ms) (n ∷ ns) e = simp expand (omega (arith, products, dot-minus cs ms ns (omega arith)))
 
-length-minus : (ms ns : List ℤ) → length ms ≡ length ns → length (minus ms ns) ≡ length ns
+pub length-minus : (ms ns : List ℤ) → length ms ≡ length ns → length (minus ms ns) ≡ length ns
 length-minus [] [] e = refl
 length-minus [] (n ∷ ns) e = absurd (omega arith)
 length-minus (m ∷ ms) [] e = absurd (omega arith)
@@ -273,16 +273,21 @@ zero_or_positive (pos zero) h = inl refl
 zero_or_positive (pos (suc n)) h = inr (omega (arith, ints))
 zero_or_positive (negsuc n) h = absurd (omega (arith, ints))
 
+-- the slope rows hold of each leg, also of length 0
+pub slopes_at : (m : ℕ) (loc : Location) (d : ℤ) (q : List ℤ) (t : ℤ) (p : List ℤ) → IsLocation m loc → length p ≡ m → IsLeg loc d p t q →
+    AllHold loc.slopes (over d (minus q p ++ t ∷ []))
+slopes_at m loc d q t p is lp leg = elim (zero_or_positive t leg.lasts) [
+  | inl z ↦ subst (λ x. AllHold loc.slopes (over d (minus q p ++ x ∷ []))) (sym z)
+      (subst (λ x. AllHold loc.slopes (over d (minus x p ++ pos 0 ∷ []))) (sym (leg.still z))
+      (λ i r h. nothing_moves m d p (get_or loc.slopes i r) lp (is.slopes i r h) (is.homogeneous i r h).0 (is.homogeneous i r h).1))
+  | inr po ↦ leg.straight po
+]
+
 slopes_hold : (m : ℕ) (loc : Location) (d : ℤ) (q : List ℤ) (e t : ℤ) (p : List ℤ) → IsLocation m loc → length q ≡ m → length p ≡ m →
     IsLeg loc d p t q → AllHold (map (leg_slope m) loc.slopes) (leg_point d q e t p)
 slopes_hold m loc d q e t p is lq lp leg =
     let s = holds_moved (m + 1) (leg_slope m) (leg_point d q e t p) (over d (minus q p ++ t ∷ [])) (leg_slope_holds m d q e t p lq lp) loc.slopes is.slopes in
-    s.1 (elim (zero_or_positive t leg.lasts) [
-      | inl z ↦ subst (λ x. AllHold loc.slopes (over d (minus q p ++ x ∷ []))) (sym z)
-          (subst (λ x. AllHold loc.slopes (over d (minus x p ++ pos 0 ∷ []))) (sym (leg.still z))
-          (λ i r h. nothing_moves m d p (get_or loc.slopes i r) lp (is.slopes i r h) (is.homogeneous i r h).0 (is.homogeneous i r h).1))
-      | inr po ↦ leg.straight po
-    ])
+    s.1 (slopes_at m loc d q t p is lp leg)
 
 -- it holds exactly where the state holds before the leg and the leg leads from p to q in time t
 pub leg_exact : (a : Automaton) (l : ℕ) (state : List Row) (d : ℤ) (q : List ℤ) (e t : ℤ) (p : List ℤ) →

@@ -75,14 +75,16 @@ abbrev pub wanted_for : MonitorSession → Sample → Option Entry → Option Ke
 wanted_for s sample (Some e) = None
 wanted_for s sample None = key_wanted s sample (last_belief s.history)
 
+-- the key that the session wants in this phase
+abbrev pub wanted_in : MonitorSession → Phase → Option Key
+wanted_in s Idle = None
+wanted_in s (Begun sample) = wanted_for s sample s.given
+wanted_in s (Missed sample) = None
+wanted_in s (Filled sample made) = None
+
 -- the key that the session wants, if it wants one
 abbrev pub wanted : MonitorSession → Option Key
-wanted s = elim s.phase [
-  | Idle ↦ None
-  | Begun sample ↦ wanted_for s sample s.given
-  | Missed sample ↦ None
-  | Filled sample made ↦ None
-]
+wanted s = wanted_in s s.phase
 
 -- ---- what a session keeps
 

@@ -1,5 +1,5 @@
 -- A world of sessions that share a memo, and its steps.
-use Rattle.std.specs.Prelude.{◌≡◌, ℕ, List, [], ◌∷◌, ◌++◌, length, Option, Some, None, slice_get, slice_set, if◌then◌else◌, ◌==◌, ⊤}
+use Rattle.std.specs.Prelude.{◌≡◌, ◌⊎◌, ℕ, List, [], ◌∷◌, ◌++◌, length, Option, Some, None, slice_get, slice_set, if◌then◌else◌, ◌==◌, ⊤}
 use Rattle.poly_specs.specs.Lists.{In, IsAmong}
 use Rattle.run_specs.specs.declared.Verdict.{Verdict}
 use Rattle.run_specs.specs.Logs.{Sample, IsSample}
@@ -41,10 +41,10 @@ pub record SameEntries (before after : List Entry) : Type 0 where
   pub no_more : IsAmong after before
   pub differ : KeysDiffer after
 
--- the entry is added where its key is absent
-pub record IsPut (before : List Entry) (e : Entry) (after : List Entry) : Type 0 where
-  pub present : HasKey e.key before → SameEntries before after
-  pub absent : (HasKey e.key before → ⊥) → SameEntries (e ∷ before) after
+-- where the entry's key is present nothing changes; where it is absent the entry is added
+abbrev pub IsPut : List Entry → Entry → List Entry → Type 0
+IsPut before e after =
+    (HasKey e.key before × SameEntries before after) ⊎ ((HasKey e.key before → ⊥) × SameEntries (e ∷ before) after)
 
 -- session i is s before and t after; the other sessions stay
 pub record Changes (i : ℕ) (before : List MonitorSession) (s t : MonitorSession) (after : List MonitorSession) : Type 0 where

@@ -15,7 +15,10 @@ ghost use Rattle.run_specs.specs.Ends.{SomeLegEnds, SomeJumpEnds, SomeSampleEnds
 ghost use Rattle.run_specs.specs.Passes.{LogPasses, OpeningPasses};
 ghost use Rattle.run_specs.specs.Verdicts.{IsLawful, AreLawful, NoOverflow};
 
+pub mod first_runs;
 pub mod histories;
+pub mod sessions;
+pub mod worlds;
 
 /// The reply to a sample.
 #[derive(Clone, Copy, Debug, PartialEq, Eq)]

@@ -1,0 +1,4 @@
+pub mod Literals
+pub mod Tanks
+pub mod Shutters
+pub mod Sums

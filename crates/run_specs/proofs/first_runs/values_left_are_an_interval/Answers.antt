@@ -1,0 +1,5 @@
+use Rattle.run_specs.proofs.PickedLemmas.{left_interval}
+use Rattle.run_specs.proofs.first_runs.values_left_are_an_interval.Goals as goal
+
+pub returns : goal.returns
+returns c a k log run i wf alarm h = left_interval a k log run i wf alarm h
