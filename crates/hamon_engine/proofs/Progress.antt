@@ -27,7 +27,7 @@ use Rattle.hamon_engine.specs.declared.status.Status.{Status}
 use Rattle.hamon_engine.specs.declared.status.Status.TheVariants as status
 use Rattle.hamon_engine.specs.Outcome.{Streams, Wrote, HasEnded, CoversAll, CoversWhole, CoversSome, NoAlarm, SomeAlarm, ReportsSome, Says, SaysBut, WriteSays, log_limit}
 use Rattle.hamon_engine.specs.Sessions.{Stands}
-use Rattle.hamon_engine.specs.Turns.{AddsLine, AddsBlock, IsReporting, GivesOne, status_for, write_status_for}
+use Rattle.hamon_engine.specs.Turns.{AddsLine, AddsBlock, IsReporting, TurnSays, GivesOne, FlushSays, status_for, write_status_for}
 
 abbrev streams : Option (List ℕ) → ℕ → Option (List ℕ) → ℕ → Streams
 streams l f o w = record { log = l; log_faults = f; out = o; out_faults = w }
@@ -375,3 +375,65 @@ pub gives_one : (m : SimpleModel) (at : Progress) (replies : List Verdict) (a b 
 gives_one m at replies a b got old after bytes r new (Text n line) s t g h x = record { given = h.1 ∙ h.0; most = g.most }
 gives_one m at replies a b got old after bytes r new (Long n) s t g h x = record { given = h.1 ∙ h.0; most = g.most }
 gives_one m at replies a b got old after bytes r new End s t g h x = absurd x
+
+pub flush_says : (m : SimpleModel) (before : Streams) (l o p : Option (List ℕ)) (f w v : ℕ) (r : Reading) (s : Session) (pending after : List ℕ) (x : Result Unit SinkFault) →
+    IsReporting m before (streams l f o w) r s pending → WriteSays o p w v pending after x → FlushSays m before (streams l f p v) r s after x
+flush_says m before l o p f w v r s pending after (Ok u) i wrote = flushed m before l o p f w v r s pending after u i wrote
+flush_says m before l o p f w v r s pending after (Err x) i wrote = flush_failed m before l o p f w v r s pending after x i wrote
+
+-- ---- before the first line
+
+Appends-nothing : (old : Option (List ℕ)) → Appends old old []
+Appends-nothing None = tt
+Appends-nothing (Some xs) = sym (append-nil xs)
+
+no_both_true : true ≡ false → ⊥
+no_both_true n = cc
+
+pub started : (m : SimpleModel) (l o : Option (List ℕ)) (f w : ℕ) (r : Reading) (s : Session) (pending : List ℕ) →
+    r ≡ record { held = []; given = 0; taken = 0; most = 2 ^ 34; has_ended = false } → Stands s at_start [] → pending ≡ [] →
+    IsReporting m (streams l f o w) (streams l f o w) r s pending
+started m l o f w r s pending is stands none = record {
+  read = [];
+  consumed = Consumes-nothing l;
+  counted = ap (λ z. z.taken) is;
+  most = ap (λ z. z.most) is;
+  end = λ e. absurd (open_yet e);
+  below = λ e. absurd (open_yet e);
+  lines = [];
+  given = inl ([], record { split = sym (ap (λ z. z.held) is); no_feeds = tt; given = ap (λ z. z.given) is }, refl);
+  count = ap (λ z. z.given) is;
+  at = at_start;
+  replies = [];
+  written = [];
+  blocks = (none, refl, refl);
+  taken = Appends-nothing o;
+  stands = stands;
+  log_faults = omega arith;
+  out_faults = omega arith;
+}
+  where
+    open_yet : r.has_ended ≡ true → ⊥
+    open_yet e = no_both_true (sym e ∙ ap (λ z. z.has_ended) is)
+
+-- nothing was read, and nothing written
+pub nothing_done : (m : SimpleModel) (l o : Option (List ℕ)) (f w : ℕ) → Says (rules_of m) (streams l f o w) (streams l f o w) status.Memory
+nothing_done m l o f w = (
+  [],
+  record {
+    read = [];
+    consumed = Consumes-nothing l;
+    lines = [];
+    replies = [];
+    written = [];
+    report = (at_start, (refl, refl, refl));
+    taken = Appends-nothing o;
+    covers = inl (whole_lines [], refl);
+  },
+)
+
+-- a turn of a session whose model is this one
+pub turn_by : (m n : SimpleModel) (before now next : Streams) (r q : Reading) (s t : Session) (old new : List ℕ) (x : Option Status) → n ≡ m →
+    (IsReporting n before now r s old → TurnSays n before next q t new x) → IsReporting m before now r s old → TurnSays m before next q t new x
+turn_by m n before now next r q s t old new x e f i =
+    subst (λ z. TurnSays z before next q t new x) e (f (subst (λ z. IsReporting z before now r s old) (sym e) i))

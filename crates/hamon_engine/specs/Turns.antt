@@ -81,3 +81,8 @@ write_status_for sink.Memory = status.Memory
 abbrev pub LinesSay : SimpleModel → Streams → Streams → List ℕ → Result Status SinkFault → Type 0
 LinesSay m before now rest (Ok status) = SaysBut (rules_of m) before now rest status × (before.out_faults ≤ now.out_faults)
 LinesSay m before now rest (Err fault) = Says (rules_of m) before now (write_status_for fault)
+
+-- after a flush the report goes on, or how a write failed
+abbrev pub FlushSays : SimpleModel → Streams → Streams → Reading → Session → List ℕ → Result Unit SinkFault → Type 0
+FlushSays m before now r s pending (Ok u) = IsReporting m before now r s pending
+FlushSays m before now r s pending (Err fault) = Says (rules_of m) before now (write_status_for fault)

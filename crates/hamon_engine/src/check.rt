@@ -7,7 +7,7 @@ ghost use Rattle.check_specs.specs.Models.{SimpleModel};
 ghost use Rattle.check_specs.specs.Report.{Progress, at_start, rules_of};
 ghost use Rattle.hamon_engine.specs.Outcome.{Streams, Says, SaysBut, WriteSays};
 ghost use Rattle.hamon_engine.specs.Sessions.{Stands, StandsSomewhere};
-ghost use Rattle.hamon_engine.specs.Turns.{AddsBlock, IsReporting, TurnSays, LinesSay, GivesOne, status_for, write_status_for};
+ghost use Rattle.hamon_engine.specs.Turns.{AddsBlock, IsReporting, TurnSays, FlushSays, LinesSay, GivesOne, status_for, write_status_for};
 
 use crate::session::Session;
 use crate::status::Status;
@@ -109,6 +109,23 @@ fn status_of(fault: ReadFault) -> Status
     }
 }
 
+/// Writes the pending blocks if the reader holds no whole line, so that a reader of the output need not wait for the next read.
+fn flush_before_read<O: Sink>(
+    reader: &LineReader,
+    pending: &mut Vec<u8>,
+    out: &mut O,
+) -> Result<(), SinkFault>
+    ensures { (m : SimpleModel) (s : Session) (before : Streams) (log : Option (List ℕ)) (reads : ℕ)
+        → IsReporting m before (record { log = log; log_faults = reads; out = O.taken out.old; out_faults = O.faults out.old }) reader.now s pending.old.items
+        → FlushSays m before (record { log = log; log_faults = reads; out = O.taken out.new; out_faults = O.faults out.new }) reader.now s pending.new.items result }
+{
+    if reader.has_line() {
+        Ok(())
+    } else {
+        write_pending(out, pending)
+    }
+}
+
 /// Reads lines until the reading ends, and writes their blocks whenever the reader holds no whole line. Gives the status of the
 /// reading, with blocks that may be pending yet.
 fn read_lines<L: Source, O: Sink>(
@@ -128,9 +145,9 @@ fn read_lines<L: Source, O: Sink>(
             (record { log = L.told log.new; log_faults = L.faults log.new; out = O.taken out.new; out_faults = O.faults out.new })
             pending.new.items result }
 {
-    loop {
-        if !reader.has_line() {
-            write_pending(out, pending)?;
+    'lines: loop {
+        if let Err(fault) = flush_before_read(reader, pending, out) {
+            return Err(fault);
         }
         if let Some(status) = read_line(alloc, reader, session, pending, log) {
             return Ok(status);

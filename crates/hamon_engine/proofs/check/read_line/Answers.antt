@@ -8,7 +8,7 @@ use Rattle.hamon_engine.proofs.check.read_line.Goals as goal
 pub returns-in-Err-clause-says : goal.returns-in-Err-clause-says
 returns-in-Err-clause-says g c before out writes i =
     let k = c.in-Err.ensures.fails in
-    subst (λ q. SaysBut (rules_of c.args.session.now.model) before _ c.args.pending.now.items q) (sym c.status_of.ensures)
+    subst (λ q. SaysBut (rules_of c.args.session.now.model) before (record { log = g.L.Source.told c.next_line.new.source; log_faults = g.L.Source.faults c.next_line.new.source; out = out; out_faults = writes }) c.args.pending.now.items q) (sym c.status_of.ensures)
     (fails c.args.session.now.model before _ _ out _ _ writes c.args.reader.now c.next_line.new.self c.args.session.now c.args.pending.now.items k.0 c.in-Err.fault
     i k.1 k.2 (λ e. c.in-Err.ensures.cause (ap (λ z. Err z) e)))
 

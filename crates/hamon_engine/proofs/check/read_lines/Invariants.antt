@@ -4,8 +4,8 @@ use Rattle.hamon_engine.specs.Sessions.{StandsSomewhere}
 use Rattle.hamon_engine.specs.Turns.{IsReporting}
 use Rattle.hamon_engine.proofs.check.read_lines.Given as goal
 
-abbrev pub invariant-loop-out : goal.invariant-loop-out
-invariant-loop-out g l = record {
+abbrev pub invariant-lines : goal.invariant-lines
+invariant-lines g l = record {
   stands : StandsSomewhere l.session;
   model : l.session.model ≡ l.fn.session.model;
   reporting : (before : Streams) →
@@ -17,5 +17,5 @@ invariant-loop-out g l = record {
       l.reader l.session l.pending.items;
 }
 
-abbrev pub decreases-loop-out : goal.decreases-loop-out
-decreases-loop-out g l = l.reader.most - l.reader.given
+abbrev pub decreases-lines : goal.decreases-lines
+decreases-lines g l = l.reader.most - l.reader.given
