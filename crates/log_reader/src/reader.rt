@@ -86,8 +86,12 @@ impl LineReader {
 
     /// Whether a whole line can be given with no read.
     pub fn has_line(&self) -> bool
-        ensures { IsTrue result ↔ Contains self.now.held 10 }
+        ensures held { IsTrue result ↔ Contains self.now.held 10 }
+
+        // A line takes a byte at least.
+        ensures within { self.now.given ≤ self.now.most }
     {
+        let _ = &self.most;
         self.feed_from(0).is_some()
     }
 

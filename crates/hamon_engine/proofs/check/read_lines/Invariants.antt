@@ -1,4 +1,4 @@
-use Rattle.std.proofs.Common.{◌≡◌, ◌-◌}
+use Rattle.std.proofs.Common.{◌≡◌, ◌+◌, ◌-◌}
 use Rattle.hamon_engine.specs.Outcome.{Streams}
 use Rattle.hamon_engine.specs.Sessions.{StandsSomewhere}
 use Rattle.hamon_engine.specs.Turns.{IsReporting}
@@ -18,4 +18,4 @@ invariant-lines g l = record {
 }
 
 abbrev pub decreases-lines : goal.decreases-lines
-decreases-lines g l = l.reader.most - l.reader.given
+decreases-lines g l = l.reader.most + 1 - l.reader.given
