@@ -5,3 +5,4 @@ pub mod Judgements
 pub mod LongLines
 pub mod Added
 pub mod Progress
+pub mod RunLemmas

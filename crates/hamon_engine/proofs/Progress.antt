@@ -263,7 +263,7 @@ wrote_some rules before l o p f w v n rest Covers i wrote = record {
 }
 
 -- what covers lines also covers first lines
-covers_map : {K : Type 0} (rules : Rules K) (before now : Streams) (rest : List ℕ) (C D : List ℕ → List (List ℕ) → List Verdict → Type 0) →
+pub covers_map : {K : Type 0} (rules : Rules K) (before now : Streams) (rest : List ℕ) (C D : List ℕ → List (List ℕ) → List Verdict → Type 0) →
     ((read : List ℕ) (lines : List (List ℕ)) (replies : List Verdict) → C read lines replies → D read lines replies) → Wrote rules before now rest C → Wrote rules before now rest D
 covers_map rules before now rest C D f i = record {
   read = i.read;
@@ -276,10 +276,10 @@ covers_map rules before now rest C D f i = record {
   covers = f i.read i.lines i.replies i.covers;
 }
 
-all_some : (Ended : Type 0) (P : List Verdict → Type 0) (read : List ℕ) (lines : List (List ℕ)) (replies : List Verdict) → CoversAll Ended P read lines replies → CoversSome Ended read lines replies
+pub all_some : (Ended : Type 0) (P : List Verdict → Type 0) (read : List ℕ) (lines : List (List ℕ)) (replies : List Verdict) → CoversAll Ended P read lines replies → CoversSome Ended read lines replies
 all_some Ended P read lines replies c = inr (c.ended, c.all)
 
-whole_some : (Ended : Type 0) (P : List ℕ → Type 0) (read : List ℕ) (lines : List (List ℕ)) (replies : List Verdict) → CoversWhole P read lines replies → CoversSome Ended read lines replies
+pub whole_some : (Ended : Type 0) (P : List ℕ → Type 0) (read : List ℕ) (lines : List (List ℕ)) (replies : List Verdict) → CoversWhole P read lines replies → CoversSome Ended read lines replies
 whole_some Ended P read lines replies c = inl ([], sym c.whole ∙ sym (append-nil lines))
 
 -- however the reading ended, a part of the rest leaves a beginning of the report

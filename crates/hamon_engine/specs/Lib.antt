@@ -7,3 +7,4 @@ pub mod Outcome
 pub mod Blocks
 pub mod Sessions
 pub mod Turns
+pub mod Runs

@@ -9,9 +9,11 @@ mod model_text;
 mod names;
 mod numbers;
 mod pieces;
-pub mod status;
+mod status;
 mod rows;
+mod command;
 mod session;
 mod words;
 
+pub use command::run;
 pub use status::Status;
