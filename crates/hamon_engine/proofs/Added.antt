@@ -59,7 +59,7 @@ adds_header m at replies number line old s e h = record {
   judged = record { is_block = subst (λ j. IsBlock m at number j [] []) e (refl, refl); next = ap (report.next at) e };
   stands =
       subst (λ rs. Stands (record s { has_header = true }) (record at { has_header = true }) rs) (sym (append-nil replies))
-          (record { simple = h.simple; header = refl; last = h.last; alarm = h.alarm });
+      (record { simple = h.simple; header = refl; last = h.last; alarm = h.alarm });
 }
 
 pub adds_refusal : (m : SimpleModel) (at : Progress) (replies : List Verdict) (number : ℕ) (why : Refusal) (line old new : List ℕ) (s : Session) →
@@ -89,7 +89,7 @@ possible_after m samples (Some s) reading p stands small follows possible k =
     let to : Row = row_of reading in
     let law = may_go_on m k stands.before from to stands.small.0.kept.positive stands.small.1.kept.positive small.0.kept.positive small.1.kept.positive follows in
     let whole : samples ++ sample_of to ∷ [] ≡ stands.before ++ sample_of from ∷ sample_of to ∷ [] =
-        ap (λ z. z ++ sample_of to ∷ []) stands.last ∙ append_assoc stands.before (sample_of from ∷ []) (sample_of to ∷ []) in
+    ap (λ z. z ++ sample_of to ∷ []) stands.last ∙ append_assoc stands.before (sample_of from ∷ []) (sample_of to ∷ []) in
     let P : List Sample → Type 0 = λ z. IsPossible (automaton_of m) k z in (
       λ t. let both = possible.0 t in subst P (sym whole) (law.1 (subst P stands.last ((stands.possible k).0 both.0), both.1)),
       λ r. let both = law.0 (subst P whole r) in possible.1 ((stands.possible k).1 (subst P (sym stands.last) both.0), both.1),
@@ -135,6 +135,7 @@ alarm_more replies v old new e h = (to, from)
         to_by : IsTrue old ⊎ IsTrue (is_alarm v) → Contains (replies ++ v ∷ []) verdict.Alarm
         to_by (inl o) = Contains-append_left replies (v ∷ []) verdict.Alarm (h.0 o)
         to_by (inr a) = Contains-append_right replies (v ∷ []) verdict.Alarm (subst (λ w. Contains (v ∷ []) w) (is_alarm-Alarm v a) (one_in v))
+
     from : Contains (replies ++ v ∷ []) verdict.Alarm → IsTrue new
     from c = from_by (Contains-append_cases replies (v ∷ []) verdict.Alarm c)
       where

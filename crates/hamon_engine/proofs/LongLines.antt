@@ -86,6 +86,7 @@ long_later m at (b ∷ bytes) is h =
   where
     line : List ℕ
     line = b ∷ bytes
+
     by_header : (t : Bool) → cond t (judge_row at.samples (row_of (b ∷ bytes))) (cond (bytes_eq (b ∷ bytes) (header_of m.variable)) header (refused Later)) ≡ refused Later
     by_header true = ap (judge_row at.samples) (row_none (b ∷ bytes) (position (λ c. c == 44) (b ∷ bytes)) (omega (arith, h)))
     by_header false =

@@ -102,7 +102,7 @@ stops_some m before l k o f h w r new s pending got i g = record {
   taken = i.taken;
   covers =
       first_given (HasEnded before (streams k h o w)) l k i.read r new got i.lines i.given g
-          (λ n. ends_by before.log l k i.read r new got r.has_ended refl i.consumed g n i.end);
+      (λ n. ends_by before.log l k i.read r new got r.has_ended refl i.consumed g n i.end);
 }
 
 -- the end: a report of all
@@ -252,12 +252,11 @@ wrote_some rules before l o p f w v n rest Covers i wrote = record {
   lines = i.lines;
   replies = i.replies;
   written = i.written ++ take n rest;
-  report =
-      (
-        i.report.0,
-        subst (λ z. AreBlocks rules rules.start 1 i.lines z i.replies i.report.0)
-            (ap (λ z. i.written ++ z) (sym (take-append-drop n rest)) ∙ sym (append_assoc i.written (take n rest) (drop n rest))) i.report.1,
-      );
+  report = (
+    i.report.0,
+    subst (λ z. AreBlocks rules rules.start 1 i.lines z i.replies i.report.0)
+        (ap (λ z. i.written ++ z) (sym (take-append-drop n rest)) ∙ sym (append_assoc i.written (take n rest) (drop n rest))) i.report.1,
+  );
   taken = Appends-more before.out o p i.written (take n rest) i.taken wrote;
   covers = i.covers;
 }
@@ -357,7 +356,7 @@ flushed m before l o p f w v r s pending after u i wrote =
       written = i.written ++ pending;
       blocks =
           subst (λ z. AreBlocks (rules_of m) at_start 1 i.lines z i.replies i.at)
-              (sym (append-nil (i.written ++ pending)) ∙ ap (λ z. (i.written ++ pending) ++ z) (sym wrote.1)) i.blocks;
+          (sym (append-nil (i.written ++ pending)) ∙ ap (λ z. (i.written ++ pending) ++ z) (sym wrote.1)) i.blocks;
       taken = Appends-more before.out o p i.written pending i.taken wrote.0;
       stands = i.stands;
       log_faults = i.log_faults;

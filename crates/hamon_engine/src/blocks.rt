@@ -30,7 +30,12 @@ fn verdict_text(verdict: Verdict) -> &'static str
 }
 
 /// Adds the block of a refused line. After an error nothing is added.
-pub(crate) fn add_refusal(alloc: Global, blocks: &mut Vec<u8>, number: u64, refusal: Refusal) -> Result<(), AllocError>
+pub(crate) fn add_refusal(
+    alloc: Global,
+    blocks: &mut Vec<u8>,
+    number: u64,
+    refusal: Refusal,
+) -> Result<(), AllocError>
     ensures ok { OnOk result (blocks.new.items ≡ blocks.old.items ++ refusal_block number refusal) }
     ensures err { OnErr result (blocks.new.items ≡ blocks.old.items) }
 {
@@ -40,7 +45,12 @@ pub(crate) fn add_refusal(alloc: Global, blocks: &mut Vec<u8>, number: u64, refu
 }
 
 /// Adds the block of an accepted sample. After an error nothing is added.
-pub(crate) fn add_verdict(alloc: Global, blocks: &mut Vec<u8>, number: u64, verdict: Verdict) -> Result<(), AllocError>
+pub(crate) fn add_verdict(
+    alloc: Global,
+    blocks: &mut Vec<u8>,
+    number: u64,
+    verdict: Verdict,
+) -> Result<(), AllocError>
     ensures ok { OnOk result (blocks.new.items ≡ blocks.old.items ++ verdict_block number verdict) }
     ensures err { OnErr result (blocks.new.items ≡ blocks.old.items) }
 {

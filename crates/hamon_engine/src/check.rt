@@ -80,9 +80,9 @@ fn read_line<L: Source>(
     requires { StandsSomewhere session.old }
     ensures says { (before : Streams) (out : Option (List ℕ)) (writes : ℕ)
         → IsReporting session.old.model before (record { log = L.told log.old; log_faults = L.faults log.old; out = out; out_faults = writes })
-            reader.old session.old pending.old.items
+        reader.old session.old pending.old.items
         → TurnSays session.old.model before (record { log = L.told log.new; log_faults = L.faults log.new; out = out; out_faults = writes })
-            reader.new session.new pending.new.items result }
+        reader.new session.new pending.new.items result }
     ensures stands { StandsSomewhere session.new }
     ensures model { session.new.model ≡ session.old.model }
     ensures given { IfNone result (GivesOne reader.old reader.new) }
@@ -140,11 +140,11 @@ fn read_lines<L: Source, O: Sink>(
     requires { StandsSomewhere session.old }
     ensures { (before : Streams)
         → IsReporting session.old.model before
-            (record { log = L.told log.old; log_faults = L.faults log.old; out = O.taken out.old; out_faults = O.faults out.old })
-            reader.old session.old pending.old.items
+        (record { log = L.told log.old; log_faults = L.faults log.old; out = O.taken out.old; out_faults = O.faults out.old })
+        reader.old session.old pending.old.items
         → LinesSay session.old.model before
-            (record { log = L.told log.new; log_faults = L.faults log.new; out = O.taken out.new; out_faults = O.faults out.new })
-            pending.new.items result }
+        (record { log = L.told log.new; log_faults = L.faults log.new; out = O.taken out.new; out_faults = O.faults out.new })
+        pending.new.items result }
 {
     'lines: loop {
         if let Err(fault) = flush_before_read(reader, pending, out) {

@@ -3,17 +3,20 @@
 
 mod blocks;
 mod check;
+mod command;
 mod digits;
 mod model;
 mod model_text;
 mod names;
 mod numbers;
 mod pieces;
-mod status;
 mod rows;
-mod command;
 mod session;
+mod status;
 mod words;
 
 pub use command::run;
 pub use status::Status;
+
+#[cfg(test)]
+mod tests;

@@ -183,7 +183,13 @@ impl Session {
     }
 
     /// Accepts a reading: adds its block to the pending ones, and stands behind it. After an error nothing has changed.
-    fn accept(&mut self, alloc: Global, number: u64, reading: Reading, pending: &mut Vec<u8>) -> Result<(), AllocError>
+    fn accept(
+        &mut self,
+        alloc: Global,
+        number: u64,
+        reading: Reading,
+        pending: &mut Vec<u8>,
+    ) -> Result<(), AllocError>
         requires small { IsSmall reading.time × IsSmall reading.value }
         requires stands { (samples : List Sample) × LastStands self.old.model samples self.old.last }
         ensures ok { OnOk result (Accepts self.old reading number pending.old.items pending.new.items self.new) }
@@ -198,7 +204,13 @@ impl Session {
     }
 
     /// Judges a line, and adds its block to the pending ones. After an error nothing has changed.
-    pub(crate) fn add_line(&mut self, alloc: Global, number: u64, line: &[u8], pending: &mut Vec<u8>) -> Result<(), AllocError>
+    pub(crate) fn add_line(
+        &mut self,
+        alloc: Global,
+        number: u64,
+        line: &[u8],
+        pending: &mut Vec<u8>,
+    ) -> Result<(), AllocError>
         requires { StandsSomewhere self.old }
         ensures stands { StandsSomewhere self.new }
         ensures ok { OnOk result ((at : report.Progress) (replies : List Verdict) → Stands self.old at replies →
@@ -218,7 +230,12 @@ impl Session {
     }
 
     /// Refuses a line of more than 4,096 bytes, which is of no form that is read. After an error nothing has changed.
-    pub(crate) fn add_long(&self, alloc: Global, number: u64, pending: &mut Vec<u8>) -> Result<(), AllocError>
+    pub(crate) fn add_long(
+        &self,
+        alloc: Global,
+        number: u64,
+        pending: &mut Vec<u8>,
+    ) -> Result<(), AllocError>
         ensures ok { OnOk result ((line : List ℕ) (at : report.Progress) (replies : List Verdict) → 4096 < length line → Stands self.now at replies →
             AddsLine self.now.model at replies number line pending.old.items pending.new.items self.now) }
         ensures err { OnErr result (pending.new.items ≡ pending.old.items) }

@@ -16,8 +16,8 @@ pub returns-in-Ok-true-clause-says : goal.returns-in-Ok-true-clause-says
 returns-in-Ok-true-clause-says g c before out writes i =
     let k = c.in-Ok.ensures.gives in
     let adds =
-        subst (AddsBlock c.args.session.now.model i.at i.replies c.in-Ok.line c.args.pending.now.items c.add_block.new.pending.items c.args.session.now c.add_block.new.session)
-        c.in-Ok-true.field-0-test (c.in-Ok-true.ensures.ok i.at i.replies i.stands) in
+    subst (AddsBlock c.args.session.now.model i.at i.replies c.in-Ok.line c.args.pending.now.items c.add_block.new.pending.items c.args.session.now c.add_block.new.session)
+    c.in-Ok-true.field-0-test (c.in-Ok-true.ensures.ok i.at i.replies i.stands) in
     goes_on c.args.session.now.model before _ _ out _ _ writes c.args.reader.now c.next_line.new.self c.args.session.now c.add_block.new.session
     c.args.pending.now.items c.add_block.new.pending.items k.0 c.in-Ok.line i k.1 k.2 adds c.next_line.ensures.later
 
@@ -26,8 +26,8 @@ returns-in-Ok-true-clause-given g c =
     let k = c.in-Ok.ensures.gives in
     let h = c.requires in
     let adds =
-        subst (AddsBlock c.args.session.now.model h.0 h.1.0 c.in-Ok.line c.args.pending.now.items c.add_block.new.pending.items c.args.session.now c.add_block.new.session)
-        c.in-Ok-true.field-0-test (c.in-Ok-true.ensures.ok h.0 h.1.0 h.1.1) in
+    subst (AddsBlock c.args.session.now.model h.0 h.1.0 c.in-Ok.line c.args.pending.now.items c.add_block.new.pending.items c.args.session.now c.add_block.new.session)
+    c.in-Ok-true.field-0-test (c.in-Ok-true.ensures.ok h.0 h.1.0 h.1.1) in
     gives_one c.args.session.now.model h.0 h.1.0 _ _ k.0 c.args.pending.now.items c.add_block.new.pending.items _ c.args.reader.now c.next_line.new.self c.in-Ok.line
     c.args.session.now c.add_block.new.session k.1 k.2 adds
 
@@ -35,8 +35,8 @@ pub returns-in-Ok-false-clause-says : goal.returns-in-Ok-false-clause-says
 returns-in-Ok-false-clause-says g c before out writes i =
     let k = c.in-Ok.ensures.gives in
     let adds =
-        subst (AddsBlock c.args.session.now.model i.at i.replies c.in-Ok.line c.args.pending.now.items c.add_block.new.pending.items c.args.session.now c.add_block.new.session)
-        c.in-Ok-false.field-0-test (c.in-Ok-false.ensures.ok i.at i.replies i.stands) in
+    subst (AddsBlock c.args.session.now.model i.at i.replies c.in-Ok.line c.args.pending.now.items c.add_block.new.pending.items c.args.session.now c.add_block.new.session)
+    c.in-Ok-false.field-0-test (c.in-Ok-false.ensures.ok i.at i.replies i.stands) in
     ends c.args.session.now.model before _ _ out _ _ writes c.args.reader.now c.next_line.new.self c.args.session.now c.add_block.new.session c.args.pending.now.items
     c.add_block.new.pending.items k.0 c.in-Ok.line c.status.result i k.1 k.2 adds c.status.ensures
 
