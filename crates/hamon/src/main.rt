@@ -3,9 +3,8 @@
 
 use hamon_engine::{Status, run};
 use mon_io::{FileShelf, StdSink, StdSource};
-use std::env;
-use std::io;
 use std::process::ExitCode;
+use std::{env, io};
 
 /// The words of the command line, without the program's name. Words that are no text are a faulty command line, as none are.
 fn words_of(rt: &HostRuntime) -> io::Result<Vec<String>> {
@@ -24,6 +23,13 @@ fn main(rt: HostRuntime) -> ExitCode {
     let mut log = StdSource::new(rt.stdin());
     let mut out = StdSink::new(rt.stdout());
     let mut diag = StdSink::new(rt.stderr());
-    let status = run(rt.alloc(), &words, &mut shelf, &mut log, &mut out, &mut diag);
+    let status = run(
+        rt.alloc(),
+        &words,
+        &mut shelf,
+        &mut log,
+        &mut out,
+        &mut diag,
+    );
     ExitCode::from(status.code())
 }

@@ -1,9 +1,8 @@
 -- A line that was judged adds its block.
-use Rattle.std.proofs.Common.{◌≡◌, ◌↔◌, ◌⊎◌, inl, inr, ℕ, zero, suc, ◌+◌, ◌<◌, List, [], ◌∷◌, ◌++◌, length, append_assoc, Bool, true, false, ◌||◌, Option, Some, None, IsTrue, refl, sym, ◌∙◌, ap, subst, arith}
+use Rattle.std.proofs.Common.{◌≡◌, ◌↔◌, ◌⊎◌, inl, inr, ℕ, zero, suc, ◌<◌, List, [], ◌∷◌, ◌++◌, length, append_assoc, Bool, true, false, ◌||◌, Option, Some, None, IsTrue, refl, sym, ◌∙◌, ap, subst, arith}
 use Rattle.std.specs.Prelude.{Contains, slice_index_or, Result, Ok, Err, OnOk, OnErr}
 use Rattle.std.proofs.lemmas.List.{append-nil}
 use Rattle.std.proofs.lemmas.List.Elements.{Contains-append_left, Contains-append_right, Contains-append_cases}
-use Rattle.poly_specs.specs.Fractions.{IsFraction}
 use Rattle.run_specs.specs.Logs.{Sample}
 use Rattle.run_specs.specs.Verdicts.{IsPossible}
 use Rattle.run_specs.specs.declared.Verdict.{Verdict}
@@ -13,7 +12,6 @@ use Rattle.check_specs.specs.declared.Refusal.TheVariants.{Later}
 use Rattle.check_specs.specs.Models.{SimpleModel, IsSimpleModel, automaton_of}
 use Rattle.check_specs.specs.Rows.{Row}
 use Rattle.check_specs.specs.Sizes.{IsSmall}
-use Rattle.check_specs.specs.Steps.{MayStart, MayGoOn}
 use Rattle.check_specs.specs.Report.{Progress, Judgement, passed_over, header, refused, accepted, sample_of, judge, IsBlock, IsVerdict}
 use Rattle.check_specs.specs.Report as report
 use Rattle.check_specs.proofs.StepLemmas.{may_start, may_go_on}

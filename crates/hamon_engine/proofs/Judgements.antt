@@ -1,10 +1,10 @@
 -- What lines do.
-use Rattle.std.proofs.Common.{◌≡◌, ℕ, ◌+◌, ◌≤◌, List, [], ◌∷◌, ◌++◌, length, Bool, true, false, cond, Some, refl, sym, ◌∙◌, ap, subst, arith}
+use Rattle.std.proofs.Common.{◌≡◌, ℕ, ◌≤◌, List, [], ◌∷◌, ◌++◌, length, cond, refl, ◌∙◌, ap, arith}
 use Rattle.run_specs.specs.Logs.{Sample}
 use Rattle.check_specs.specs.Rows.{Row}
-use Rattle.check_specs.specs.declared.Refusal.TheVariants.{Later, Time}
+use Rattle.check_specs.specs.declared.Refusal.TheVariants.{Time}
 use Rattle.check_specs.specs.Models.{SimpleModel}
-use Rattle.check_specs.specs.Report.{Progress, Judgement, refused, accepted, sample_of, is_below, judge_time, judge_text, judge}
+use Rattle.check_specs.specs.Report.{Progress, refused, accepted, sample_of, is_below, judge_time, judge_text, judge}
 use Rattle.hamon_engine.specs.declared.session.Standing.{Standing}
 use Rattle.hamon_engine.specs.Sessions.{StandsAt, row_of}
 

@@ -1,15 +1,14 @@
 -- A line of more than 4,096 bytes is of no form that is read.
-use Rattle.std.proofs.Common.{◌≡◌, ◌⊎◌, inl, inr, ℕ, ◌+◌, ◌-◌, ◌<◌, ◌≤◌, List, [], ◌∷◌, ◌++◌, length, length-take, length-drop, length-append, take, drop, Bool, true, false, cond, ◌&&◌, ◌==◌, nat_le, Option, Some, None, IsTrue, refl, sym, ◌∙◌, ap, subst, arith, rules, codes, bytes_eq}
+use Rattle.std.proofs.Common.{◌≡◌, ◌⊎◌, inl, inr, ℕ, ◌+◌, ◌<◌, ◌≤◌, List, [], ◌∷◌, length, length-take, length-drop, length-append, take, drop, Bool, true, false, cond, ◌&&◌, ◌==◌, nat_le, Option, Some, None, refl, ◌∙◌, ap, arith, rules, codes, bytes_eq}
 use Rattle.std.specs.Prelude.{position}
 use Rattle.std.proofs.Math.Bool.{and-false}
 use Rattle.std.proofs.lemmas.Bool.{cases_lt}
 use Rattle.std.proofs.lemmas.Slice.Eq.{bytes_eq-Decides}
 use Rattle.poly_specs.specs.Fractions.{Fraction}
-use Rattle.run_specs.specs.Logs.{Sample}
-use Rattle.check_specs.specs.declared.Refusal.TheVariants.{Later, Time}
+use Rattle.check_specs.specs.declared.Refusal.TheVariants.{Later}
 use Rattle.check_specs.specs.Models.{SimpleModel, IsSimpleModel}
-use Rattle.check_specs.specs.Rows.{Row, are_digits, digits_of, whole_number, with_decimals, pointed_number, unsigned_at, unsigned_number, negated, number_of, both, row_at, row_of, header_of}
-use Rattle.check_specs.specs.Report.{Progress, Judgement, refused, accepted, header, judge_row, judge_text, judge}
+use Rattle.check_specs.specs.Rows.{are_digits, digits_of, whole_number, unsigned_at, unsigned_number, negated, number_of, both, row_at, row_of, header_of}
+use Rattle.check_specs.specs.Report.{Progress, refused, header, judge_row, judge}
 use Rattle.hamon_engine.proofs.ModelTexts.{name_is_short}
 
 over_nine : (n : ℕ) → 9 < n → nat_le n 9 ≡ false

@@ -1,5 +1,5 @@
 -- The parts of a model's text are found where they stand.
-use Rattle.std.proofs.Common.{◌≡◌, ◌≢◌, ℕ, suc, ◌<◌, ◌≤◌, ◌^◌, List, [], ◌∷◌, ◌++◌, append_assoc, Bool, true, false, ◌&&◌, not, nat_le, bytes_eq, length, IsTrue, cond, Option, Some, None, codes, refl, sym, ◌∙◌, ap, subst, arith, ℤ, pos, negsuc, rules}
+use Rattle.std.proofs.Common.{◌≡◌, ◌≢◌, ℕ, suc, ◌<◌, ◌≤◌, ◌^◌, List, [], ◌∷◌, ◌++◌, append_assoc, Bool, true, false, ◌&&◌, not, nat_le, bytes_eq, length, IsTrue, cond, Option, Some, codes, refl, sym, ◌∙◌, ap, subst, arith, ℤ, pos, negsuc, rules}
 use Rattle.std.specs.Prelude.{IsSomeAnd}
 use Rattle.std.specs.Fmt.{signed_decimal, decimal}
 use Rattle.std.specs.Str.Parse.{AllDigits}

@@ -1,6 +1,6 @@
 -- A report grows line by line.
-use Rattle.std.proofs.Common.{◌≡◌, ◌⊎◌, inl, inr, ℕ, suc, ◌+◌, ◌-◌, ◌^◌, ◌<◌, ◌≤◌, List, [], ◌∷◌, ◌++◌, length, take, drop, append_assoc, Bool, true, false, cond, Option, None, Some, Result, Ok, Err, refl, sym, ◌∙◌, ap, subst, arith}
-use Rattle.std.specs.Prelude.{IfSome, IfNone, OnOk, Contains}
+use Rattle.std.proofs.Common.{◌≡◌, inl, inr, ℕ, ◌+◌, ◌-◌, ◌^◌, ◌<◌, ◌≤◌, List, [], ◌∷◌, ◌++◌, length, take, drop, append_assoc, Bool, true, false, cond, Option, None, Some, Result, Ok, Err, refl, sym, ◌∙◌, ap, subst, arith}
+use Rattle.std.specs.Prelude.{IfSome}
 use Rattle.std.proofs.Math.Seq.{take-add}
 use Rattle.std.proofs.lemmas.List.{append-nil, length-append, take-append-drop, take_rest}
 use Rattle.std.specs.Io.KnownBytes.{Appends, Consumes, IsAtEnd}
@@ -8,8 +8,7 @@ use Rattle.mon_io.specs.Faults.{Rose}
 use Rattle.mon_io.specs.declared.sink.SinkFault.{SinkFault}
 use Rattle.mon_io.specs.declared.sink.SinkFault.TheVariants as sink
 use Rattle.run_specs.specs.declared.Verdict.{Verdict}
-use Rattle.run_specs.specs.declared.Verdict.TheVariants as verdict
-use Rattle.report_specs.specs.Lines.{HasNoFeed, unmarked, ended, shown_lines, lines_of, whole_lines}
+use Rattle.report_specs.specs.Lines.{HasNoFeed, unmarked, ended, lines_of, whole_lines}
 use Rattle.report_specs.specs.Report.{Rules, AreBlocks, AreFirstLines}
 use Rattle.report_specs.proofs.LineLemmas.{whole_lines_more}
 use Rattle.report_specs.proofs.ReportLemmas.{blocks_join}
@@ -19,7 +18,7 @@ use Rattle.log_reader.specs.declared.line.Line.{Line}
 use Rattle.log_reader.specs.declared.line.Line.TheVariants.{Text, Long, End}
 use Rattle.log_reader.specs.declared.reader.ReadFault.{ReadFault}
 use Rattle.log_reader.specs.declared.reader.ReadFault.TheVariants as fault
-use Rattle.log_reader.specs.Reading.{Reading, Gets, Gives, Fails, HasNext, IsInside, HasGiven}
+use Rattle.log_reader.specs.Reading.{Reading, Gets, Gives, Fails, HasNext, HasGiven}
 use Rattle.log_reader.proofs.FillLemmas.{Consumes-more, Consumes-nothing}
 use Rattle.log_reader.proofs.GivenLemmas.{given_line, given_end, given_whole}
 use Rattle.hamon_engine.specs.declared.session.Session.{Session}

@@ -1,5 +1,5 @@
 -- What a run says, by what its parts say.
-use Rattle.std.proofs.Common.{◌≡◌, ◌≢◌, ◌⊎◌, inl, inr, ℕ, ◌≤◌, ◌<◌, ◌^◌, List, [], ◌∷◌, ◌++◌, length, take, Option, None, Some, Result, Ok, Err, refl, sym, ◌∙◌, ap, subst, arith}
+use Rattle.std.proofs.Common.{◌≡◌, ◌≢◌, ◌⊎◌, inl, inr, ℕ, List, [], length, take, Option, None, Some, Result, Ok, Err, refl, sym, subst, arith}
 use Rattle.std.specs.Prelude.{IfSome, IfOk}
 use Rattle.std.specs.Io.KnownBytes.{Keeps, Appends}
 use Rattle.mon_io.specs.Faults.{Rose}
@@ -8,8 +8,8 @@ use Rattle.check_specs.specs.Models.{SimpleModel}
 use Rattle.check_specs.specs.Report.{rules_of}
 use Rattle.hamon_engine.specs.declared.status.Status.{Status}
 use Rattle.hamon_engine.specs.declared.status.Status.TheVariants as status
-use Rattle.hamon_engine.specs.Outcome.{Streams, Wrote, HasEnded, CoversSome, NoAlarm, SomeAlarm, ReportsSome, Says, IsUntouched, TellsLine, log_limit}
-use Rattle.hamon_engine.specs.Runs.{Outside, IsModelText, HasNoModel, RefusesText, RunsText, RunsWords, HasCause, IsTheModel, LacksModel, IsTold}
+use Rattle.hamon_engine.specs.Outcome.{Streams, HasEnded, NoAlarm, SomeAlarm, ReportsSome, Says, IsUntouched, TellsLine, log_limit}
+use Rattle.hamon_engine.specs.Runs.{Outside, IsModelText, HasNoModel, RunsText, RunsWords, HasCause, IsTheModel, LacksModel, IsTold}
 use Rattle.hamon_engine.specs.Codes.{line_of}
 use Rattle.std.proofs.Math.Seq.{take-length}
 use Rattle.hamon_engine.proofs.Progress.{covers_map, all_some, whole_some}

@@ -1,5 +1,5 @@
 -- The parts of a model's text.
-use Rattle.std.specs.Prelude.{◌≡◌, ℕ, List, ◌∷◌, ◌++◌, Bool, IsTrue, codes}
+use Rattle.std.specs.Prelude.{◌≡◌, ℕ, List, ◌++◌, Bool, IsTrue, codes}
 use Rattle.std.specs.Fmt.{signed_decimal}
 use Rattle.check_specs.specs.declared.Bound.{Bound}
 use Rattle.check_specs.specs.declared.Slopes.{Slopes}

@@ -1,5 +1,5 @@
 -- What a status says of the bytes that were read and written.
-use Rattle.std.specs.Prelude.{◌≡◌, ◌≢◌, ◌⊎◌, ℕ, ◌^◌, ◌<◌, ◌≤◌, Result, Ok, Err, List, [], ◌∷◌, ◌++◌, length, take, Option, IfSome, Contains}
+use Rattle.std.specs.Prelude.{◌≡◌, ℕ, ◌^◌, ◌<◌, ◌≤◌, Result, Ok, Err, List, [], ◌++◌, length, take, Option, IfSome, Contains}
 use Rattle.std.specs.Io.KnownBytes.{Appends, Consumes, IsAtEnd, Keeps}
 use Rattle.mon_io.specs.Faults.{Rose}
 use Rattle.mon_io.specs.declared.sink.SinkFault.{SinkFault}

@@ -1,5 +1,5 @@
 -- A report goes on where it ended.
-use Rattle.std.proofs.Common.{◌≡◌, ℕ, suc, ◌+◌, List, [], ◌∷◌, ◌++◌, length, refl, sym, ◌∙◌, ap, subst, append_assoc, arith}
+use Rattle.std.proofs.Common.{◌≡◌, ℕ, suc, ◌+◌, List, [], ◌∷◌, ◌++◌, length, sym, ◌∙◌, ap, subst, append_assoc, arith}
 use Rattle.run_specs.specs.declared.Verdict.{Verdict}
 use Rattle.report_specs.specs.Report.{Rules, AreBlocks}
 

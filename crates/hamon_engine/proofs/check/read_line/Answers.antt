@@ -1,4 +1,4 @@
-use Rattle.std.proofs.Common.{ap, sym, subst, Err, Option, List, ℕ}
+use Rattle.std.proofs.Common.{ap, sym, subst, Err}
 use Rattle.check_specs.specs.Report.{rules_of}
 use Rattle.hamon_engine.specs.Outcome.{SaysBut}
 use Rattle.hamon_engine.specs.Turns.{AddsBlock}

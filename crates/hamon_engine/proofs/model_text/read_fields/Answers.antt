@@ -1,7 +1,7 @@
 use Rattle.std.proofs.Common.{ℕ, List, sym, subst}
-use Rattle.check_specs.specs.Models.{location_text, bound_text, flow_text}
+use Rattle.check_specs.specs.Models.{bound_text, flow_text}
 use Rattle.hamon_engine.specs.Fields.{IsTail}
-use Rattle.hamon_engine.proofs.ModelTexts.{tail_text, head_of_text, tail_of_text, parts_of_text}
+use Rattle.hamon_engine.proofs.ModelTexts.{head_of_text, tail_of_text, parts_of_text}
 use Rattle.hamon_engine.proofs.model_text.read_fields.Goals as goal
 
 pub returns-in_err-head-clause-found : goal.returns-in_err-head-clause-found

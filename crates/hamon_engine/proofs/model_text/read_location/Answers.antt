@@ -1,4 +1,3 @@
-use Rattle.std.proofs.Common.{Bool, true, false}
 use Rattle.hamon_engine.proofs.ModelTexts.{marked_found}
 use Rattle.hamon_engine.proofs.model_text.read_location.Goals as goal
 

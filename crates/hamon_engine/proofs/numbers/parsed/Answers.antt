@@ -1,5 +1,5 @@
-use Rattle.std.proofs.Common.{◌≡◌, ◌∙◌, ap, sym, subst, Some, Ok}
-use Rattle.std.specs.Str.Parse.{ParsesUnsigned, digits_value}
+use Rattle.std.proofs.Common.{subst}
+use Rattle.std.specs.Str.Parse.{ParsesUnsigned}
 use Rattle.hamon_engine.proofs.Numerals.{digits_are_utf8, digits_parse}
 use Rattle.hamon_engine.proofs.numbers.parsed.Goals as goal
 

@@ -1,4 +1,4 @@
-use Rattle.std.proofs.Common.{subst, sym, arith, ℕ, ◌+◌, ◌*◌, ◌<◌, ◌^◌, length}
+use Rattle.std.proofs.Common.{arith, length}
 use Rattle.hamon_engine.proofs.Numerals.{decimals_are_small}
 use Rattle.hamon_engine.proofs.numbers.pointed_number.Goals as goal
 

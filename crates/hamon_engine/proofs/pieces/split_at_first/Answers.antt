@@ -1,4 +1,3 @@
-use Rattle.std.proofs.Common.{rules, sym}
 use Rattle.hamon_engine.proofs.Splits.{no_halves, place_splits, halves_unique}
 use Rattle.hamon_engine.proofs.pieces.split_at_first.Goals as goal
 

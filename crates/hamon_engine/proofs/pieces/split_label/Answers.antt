@@ -1,5 +1,4 @@
-use Rattle.std.proofs.Common.{rules}
-use Rattle.hamon_engine.proofs.Splits.{behind_label, with_label}
+use Rattle.hamon_engine.proofs.Splits.{behind_label}
 use Rattle.hamon_engine.proofs.pieces.split_label.Goals as goal
 
 pub returns-clause-found : goal.returns-clause-found

@@ -1,4 +1,4 @@
-use Rattle.std.proofs.Common.{◌≡◌, ◌∙◌, sym, subst, Some}
+use Rattle.std.proofs.Common.{◌∙◌, sym, subst}
 use Rattle.hamon_engine.specs.Sessions.{row_of, LastStands}
 use Rattle.hamon_engine.proofs.Judgements.{judge_after}
 use Rattle.hamon_engine.proofs.session.Session.judge_reading.Goals as goal
