@@ -1,4 +1,3 @@
-pub mod Names
 pub mod Models
 pub mod Rows
 pub mod Steps

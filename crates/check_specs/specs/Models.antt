@@ -9,7 +9,7 @@ use Rattle.check_specs.specs.declared.Comparison.{Comparison}
 use Rattle.check_specs.specs.declared.Bound.{Bound}
 use Rattle.check_specs.specs.declared.Slopes.{Slopes}
 use Rattle.check_specs.specs.declared.Comparison.TheVariants.{AtMost, AtLeast, Equal}
-use Rattle.check_specs.specs.Names.{is_name}
+use Rattle.run_specs.specs.Names.{is_name}
 
 -- a model of one variable and one location: where the variable starts, where it stays, and its slopes
 pub record SimpleModel : Type 0 where

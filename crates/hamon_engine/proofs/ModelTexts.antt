@@ -12,7 +12,7 @@ use Rattle.std.proofs.lemmas.Bool.{leb-true}
 use Rattle.std.proofs.lemmas.List.Elements.{All-from_recursion}
 use Rattle.check_specs.specs.declared.Bound.{Bound}
 use Rattle.check_specs.specs.declared.Slopes.{Slopes}
-use Rattle.check_specs.specs.Names.{is_name, is_word_byte, begins_as_name, keywords}
+use Rattle.run_specs.specs.Names.{is_name, is_word_byte, has_name_length, begins_as_name, keywords}
 use Rattle.check_specs.specs.Models.{SimpleModel, IsSimpleModel, IsShort, AreSlopes, comparison_text, bound_text, location_text, flow_text, IsTextOf}
 use Rattle.hamon_engine.specs.Pieces.{Lacks, IsSplit}
 use Rattle.hamon_engine.specs.declared.model_text.Location.{Location}
@@ -100,11 +100,20 @@ no_third true true true d e h = absurd (cc)
 
 pub no_name : (front rest : List ℕ) → IsTrue (is_name (front ++ 32 ∷ rest)) → ⊥
 no_name front rest h =
-    no_third (begins_as_name (front ++ 32 ∷ rest)) (nat_le (length (front ++ 32 ∷ rest)) 32) (list_all is_word_byte (front ++ 32 ∷ rest))
+    no_third (has_name_length (front ++ 32 ∷ rest)) (begins_as_name (front ++ 32 ∷ rest)) (list_all is_word_byte (front ++ 32 ∷ rest))
     (not (list_any (bytes_eq (front ++ 32 ∷ rest)) keywords)) (words_before front rest) h
 
 pub same_location : (o : Option Location) (name other : List ℕ) (m : Bool) → name ≡ other → IsSomeAnd o (λ l. IsLocation l name m) → IsSomeAnd o (λ l. IsLocation l other m)
 same_location o name other m e h = subst (λ z. IsSomeAnd o (λ l. IsLocation l z m)) e h
+
+-- a text without ` unsafe` at its end is the name itself
+pub unmarked_found : (text name : List ℕ) (m : Bool) (o : Option Location) → ((front : List ℕ) → text ≢ front ++ codes " unsafe") →
+    (IsTrue (is_name text) → IsSomeAnd o (λ l. IsLocation l text false)) → IsLocationText text name m → IsSomeAnd o (λ l. IsLocation l name m)
+unmarked_found text name true o none found is = absurd (none name is.spelled)
+unmarked_found text name false o none found is =
+    let same : text ≡ name = is.spelled ∙ append-nil name in
+    let P : List ℕ → Type 0 = λ z. IsTrue (is_name z) in
+    same_location o text name false same (found (subst P (sym same) is.is_name))
 
 -- the name before ` unsafe` is the only one that the text may have
 pub marked_found : (text front name : List ℕ) (m : Bool) (o : Option Location) → text ≡ front ++ codes " unsafe" →
@@ -135,20 +144,19 @@ third : (a b c d : Bool) → IsTrue (a && b && c && d) → c ≡ true
 third a b true d h = refl
 third a b false d h = absurd (no_third a b false d refl h)
 
-second : (a b c d : Bool) → IsTrue (a && b && c && d) → b ≡ true
-second a true c d h = refl
-second true false c d h = let no : false ≡ true = h in cc
-second false false c d h = let no : false ≡ true = h in cc
+first : (a b c d : Bool) → IsTrue (a && b && c && d) → a ≡ true
+first true b c d h = refl
+first false b c d h = let no : false ≡ true = h in cc
 
 pub name_is_short : (name : List ℕ) → IsTrue (is_name name) → length name ≤ 32
 name_is_short name h =
-    leb-true (length name) 32
-    (second (begins_as_name name) (nat_le (length name) 32) (list_all is_word_byte name) (not (list_any (bytes_eq name) keywords)) h)
+    let long = first (has_name_length name) (begins_as_name name) (list_all is_word_byte name) (not (list_any (bytes_eq name) keywords)) h in
+    leb-true (length name) 32 (both_true (nat_le 1 (length name)) (nat_le (length name) 32) long).1
 
 name_misses : (name : List ℕ) → IsTrue (is_name name) → Misses 10 name
 name_misses name h =
     word_misses name
-    (third (begins_as_name name) (nat_le (length name) 32) (list_all is_word_byte name) (not (list_any (bytes_eq name) keywords)) h)
+    (third (has_name_length name) (begins_as_name name) (list_all is_word_byte name) (not (list_any (bytes_eq name) keywords)) h)
 
 comparison_misses : (c : Comparison) → Misses 10 (comparison_text c)
 comparison_misses AtMost = search rules

@@ -3,7 +3,7 @@ use Rattle.std.specs.Prelude.{◌≡◌, ℕ, List, ◌++◌, Bool, IsTrue, code
 use Rattle.std.specs.Fmt.{signed_decimal}
 use Rattle.check_specs.specs.declared.Bound.{Bound}
 use Rattle.check_specs.specs.declared.Slopes.{Slopes}
-use Rattle.check_specs.specs.Names.{is_name}
+use Rattle.run_specs.specs.Names.{is_name}
 use Rattle.check_specs.specs.Models.{IsShort, AreSlopes, comparison_text, bound_text, location_text, flow_text}
 use Rattle.hamon_engine.specs.Pieces.{IsLabelled}
 use Rattle.hamon_engine.specs.declared.model_text.Location.{Location}

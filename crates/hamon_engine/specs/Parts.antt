@@ -1,6 +1,6 @@
 -- A model and the parts of its text.
 use Rattle.std.specs.Prelude.{◌≡◌, ℕ, List, IsTrue}
-use Rattle.check_specs.specs.Names.{is_name}
+use Rattle.run_specs.specs.Names.{is_name}
 use Rattle.check_specs.specs.Models.{SimpleModel}
 use Rattle.hamon_engine.specs.declared.model_text.Fields.{Fields}
 use Rattle.hamon_engine.specs.Fields.{IsLocationText, IsBoundText, IsFlowText}

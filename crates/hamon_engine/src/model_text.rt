@@ -1,6 +1,6 @@
 //! The text of a model of one variable and one location.
 ghost use Rattle.std.specs.Prelude.{◌≡◌, ℕ, ℤ, List, Bool, IsTrue, Some, IfSome, IsSomeAnd, ◌≤ℤ◌};
-ghost use Rattle.check_specs.specs.Names as words;
+ghost use Rattle.run_specs.specs.Names as words;
 ghost use Rattle.std.specs.Fmt.{signed_decimal};
 ghost use Rattle.check_specs.specs.Models.{IsShort, SimpleModel, IsTextOf};
 ghost use Rattle.hamon_engine.specs.Parts.{model_of, ArePartsOf};

@@ -1,7 +1,7 @@
 //! The names of the model language.
 ghost use Rattle.std.specs.Prelude.{◌≡◌, ◌||◌, ◌==◌, nat_le, bytes_eq};
 ghost use Rattle.std.specs.List.{list_any, list_all};
-ghost use Rattle.check_specs.specs.Names as names;
+ghost use Rattle.run_specs.specs.Names as names;
 
 /// Whether a byte is a letter.
 fn is_letter(b: u8) -> bool
@@ -22,6 +22,13 @@ fn is_word_byte(b: u8) -> bool
     ensures { result ≡ names.is_word_byte b }
 {
     is_letter(b) || is_digit(b) || b == b'_'
+}
+
+/// Whether a text is as long as a name may be.
+fn has_name_length(text: &[u8]) -> bool
+    ensures { result ≡ names.has_name_length text.now }
+{
+    1 <= text.len() && text.len() <= 32
 }
 
 /// Whether a name may begin so.
@@ -70,5 +77,5 @@ fn are_word_bytes(text: &[u8]) -> bool
 pub(crate) fn is_name(text: &[u8]) -> bool
     ensures { result ≡ names.is_name text.now }
 {
-    begins_as_name(text) && text.len() <= 32 && are_word_bytes(text) && !is_keyword(text)
+    has_name_length(text) && begins_as_name(text) && are_word_bytes(text) && !is_keyword(text)
 }

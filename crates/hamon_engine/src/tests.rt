@@ -20,7 +20,7 @@ const UNSAFE: &str =
 struct Given<'a> {
     words: &'a [&'a str],
     model: &'a str,
-    log: &'a str,
+    log: &'a [u8],
     per_call: usize,
     looks: &'a [u64],
     reads: &'a [u64],
@@ -56,14 +56,14 @@ fn expect(
 {
     let words = words_of(alloc, given.words)?;
     let mut shelf = shelf_of(alloc, given.model, given.looks)?;
-    let log = given.log.as_bytes().to_vec(alloc)?;
+    let log = given.log.to_vec(alloc)?;
     let mut log = MemSource::new(log, given.per_call, given.reads.to_vec(alloc)?);
     let mut out = MemSink::new(alloc, given.per_call, given.writes.to_vec(alloc)?);
     let mut diag = MemSink::new(alloc, given.per_call, Vec::new(alloc));
     let ended = run(alloc, &words, &mut shelf, &mut log, &mut out, &mut diag);
-    assert_eq!(rt; ended, status, "{}", given.log);
-    assert_eq!(rt; out.bytes(), written.as_bytes(), "{}", given.log);
-    assert_eq!(rt; diag.bytes(), told.as_bytes(), "{}", given.model);
+    assert_eq!(rt; ended, status);
+    assert_eq!(rt; out.bytes(), written.as_bytes());
+    assert_eq!(rt; diag.bytes(), told.as_bytes());
     Ok(())
 }
 
@@ -117,7 +117,7 @@ fn logs_are_reported(rt: HostRuntime) -> Result<(), Fail> {
             let given = Given {
                 words: &["check", "tank"],
                 model,
-                log,
+                log: log.as_bytes(),
                 per_call,
                 looks: &[],
                 reads: &[],
@@ -170,7 +170,7 @@ fn words_and_models_are_refused(rt: HostRuntime) -> Result<(), Fail> {
         let given = Given {
             words,
             model,
-            log: "time,x\n0,0\n",
+            log: b"time,x\n0,0\n",
             per_call: 4,
             looks: &[],
             reads: &[],
@@ -185,7 +185,7 @@ fn words_and_models_are_refused(rt: HostRuntime) -> Result<(), Fail> {
 fn faults_end_a_run(rt: HostRuntime) -> Result<(), Fail> {
     let read = (Status::ReadFault, "hamon: read fault\n");
     let write = (Status::WriteFault, "hamon: write fault\n");
-    let rows: [(&[u64], &[u64], &[u64], (Status, &str), &str); 6] = [
+    let rows: [(&[u64], &[u64], &[u64], (Status, &str), &str); 7] = [
         (&[1], &[], &[], read, ""),
         // the first read, one inside the third line, and the one that would give the end
         (&[], &[1], &[], read, ""),
@@ -193,12 +193,13 @@ fn faults_end_a_run(rt: HostRuntime) -> Result<(), Fail> {
         (&[], &[16], &[], read, "2,safe\n3,safe\n"),
         (&[], &[], &[1], write, ""),
         (&[], &[], &[3], write, "2,"),
+        (&[], &[], &[14], write, "2,safe\n3,safe"),
     ];
     for (looks, reads, writes, (status, told), written) in rows {
         let given = Given {
             words: &["check", "tank"],
             model: TANK,
-            log: "time,x\n0,0\n4,6\n",
+            log: b"time,x\n0,0\n4,6\n",
             per_call: 1,
             looks,
             reads,
@@ -206,5 +207,33 @@ fn faults_end_a_run(rt: HostRuntime) -> Result<(), Fail> {
         };
         expect(&rt, rt.alloc(), &given, status, written, told)?;
     }
+    Ok(())
+}
+
+#[test]
+fn long_lines_are_refused(rt: HostRuntime) -> Result<(), Fail> {
+    let alloc = rt.alloc();
+    let mut log = b"time,x\n".to_vec(alloc)?;
+    for _ in 0..4097 {
+        log.push(b'0')?;
+    }
+    log.extend_from_slice(b"\n0,0\n")?;
+    let given = Given {
+        words: &["check", "tank"],
+        model: TANK,
+        log: &log,
+        per_call: 4096,
+        looks: &[],
+        reads: &[],
+        writes: &[],
+    };
+    expect(
+        &rt,
+        alloc,
+        &given,
+        Status::Clean,
+        "2,refused,later\n3,safe\n",
+        "",
+    )?;
     Ok(())
 }
