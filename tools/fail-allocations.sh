@@ -1,47 +1,43 @@
 #!/bin/sh
-# Makes one allocation after the other fail in the tests of the engine, and lists what came of it. It is no part of the gate.
+# Makes one allocation after the other fail in the program's stored run, and says what came of it. It is no part of the gate.
 #
 #     tools/fail-allocations.sh [FIRST [LAST]]
 #
-# In each round one allocation of each test fails: the first, then the second, and so on from FIRST to LAST (1 to 40 if left out).
-# It ends early after a round in which every test passed: then mostly no test has so many allocations. Each round builds the tests
-# anew, and proves nothing.
-#
-# A test that ends with `AllocError` tells of the want of memory, as it should. All else is printed for a reader: an assertion that
-# failed, since an answer changed in place of the error, or a fault.
+# In each round one allocation fails: the first, then the second, and so on from FIRST to LAST (1 to 60 if left out). The run must
+# end with status 6 and have written a beginning of the stored output. The first round in which nothing failed ends it: the status
+# is then 0, and the output is the stored one. Each round builds the program anew, and proves nothing.
 set -u
 here=$(CDPATH='' cd -- "$(dirname -- "$0")/.." && pwd) || exit 2
 first=${1:-1}
-last=${2:-40}
+last=${2:-60}
 
 told=$(mktemp) || exit 2
-trap 'rm -f "$told"' EXIT
+trap 'rm -f "$told" "$told.out"' EXIT
 trap 'exit 130' HUP INT TERM
-cd "$here/crates/hamon_engine" || exit 2
+cd "$here/crates/hamon" || exit 2
 
-rounds=0
-unclear=0
+# Whether the first file's bytes begin the second's.
+begins() {
+    size=$(wc -c <"$1")
+    head -c "$size" "$2" | cmp -s - "$1"
+}
+
 number=$first
 while [ "$number" -le "$last" ]; do
-    rt try --test --fail-alloc "$number" </dev/null >"$told" 2>&1
+    rt try --fail-alloc "$number" -- check data/tank.lha <stdin >"$told" 2>&1
     status=$?
-    if ! grep -q '^test result: ' "$told"; then
-        echo "allocation $number: the tests did not run" >&2
-        cat "$told" >&2
-        exit 2
-    fi
-    rounds=$((rounds + 1))
-    passed=$(grep -c '^test .* \.\.\. ok$' "$told")
-    failed=$(grep -c '^test .* \.\.\. FAILED$' "$told")
-    wanting=$(grep -c '^    error: AllocError$' "$told")
-    echo "allocation $number: $passed passed, $wanting told of the want of memory, $((failed - wanting)) to be read"
-    if [ "$failed" -ne "$wanting" ]; then
-        unclear=$((unclear + failed - wanting))
-        sed 's/^/    /' "$told"
-    fi
-    if [ "$status" -eq 0 ]; then
-        break
+    # What the program wrote stands before the lines of the kit's own.
+    grep -v -e '^allocations: ' -e '^checked: ' -e '^interpreter: ' -e '^run=' -e '^hamon: ' "$told" >"$told.out"
+    size=$(wc -c <"$told.out")
+    if [ "$status" -eq 0 ] && cmp -s "$told.out" stdout; then
+        echo "allocation $number: none failed; the whole output was written"
+        exit 0
+    elif [ "$status" -eq 6 ] && begins "$told.out" stdout; then
+        echo "allocation $number: status 6 after $size bytes of the output"
+    else
+        echo "allocation $number: status $status, to be read:"
+        cat "$told"
+        exit 1
     fi
     number=$((number + 1))
 done
-echo "$rounds rounds, $unclear tests to be read"
