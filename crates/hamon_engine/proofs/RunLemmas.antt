@@ -9,7 +9,7 @@ use Rattle.check_specs.specs.Report.{rules_of}
 use Rattle.hamon_engine.specs.declared.status.Status.{Status}
 use Rattle.hamon_engine.specs.declared.status.Status.TheVariants as status
 use Rattle.hamon_engine.specs.Outcome.{Streams, HasEnded, NoAlarm, SomeAlarm, ReportsSome, Says, IsUntouched, TellsLine, log_limit}
-use Rattle.hamon_engine.specs.Runs.{Outside, IsModelText, HasNoModel, RunsText, RunsWords, HasCause, IsTheModel, LacksModel, IsTold}
+use Rattle.hamon_engine.specs.Runs.{Outside, IsUndisturbed, IsComplete, Completes, IsModelText, HasNoModel, RunsText, RunsWords, HasCause, IsTheModel, LacksModel, IsTold}
 use Rattle.hamon_engine.specs.Codes.{line_of}
 use Rattle.std.proofs.Math.Seq.{take-length}
 use Rattle.hamon_engine.proofs.Progress.{covers_map, all_some, whole_some}
@@ -126,6 +126,38 @@ pub told_cause : (s n : Streams) (t u : List ℕ → Option (List ℕ)) (f h : �
     HasCause (outside s t f) (outside n u h) y
 told_cause s n t u f h x y (inl e) c = subst (λ z. HasCause (outside s t f) (outside n u h) z) (sym e) c
 told_cause s n t u f h x y (inr e) c = subst (λ z. HasCause (outside s t f) (outside n u h) z) (sym e) tt
+
+-- ---- completeness
+
+complete_says : (before now : Outside) (m : SimpleModel) (x : Status) → IsUndisturbed before now → Says (rules_of m) before.streams now.streams x → IsComplete x
+complete_says before now m status.Clean u says = inl refl
+complete_says before now m status.Alarm u says = inr (inl refl)
+complete_says before now m status.Memory u says = inr (inr refl)
+complete_says before now m status.ReadFault u says = absurd (u.log says.covers.why)
+complete_says before now m status.WriteFault u says = absurd (u.out says.1)
+complete_says before now m status.Limit u says =
+    let below = u.below says.read says.consumed in
+    let full = says.covers.why in
+    absurd (omega (arith, below, full))
+complete_says before now m status.Words u says = absurd says
+complete_says before now m status.Model u says = absurd says
+
+complete_by : (before now : Outside) (m : SimpleModel) (x : Status) → IsUndisturbed before now → Says (rules_of m) before.streams now.streams x ⊎ HasNoModel before now x → IsComplete x
+complete_by before now m x u (inl says) = complete_says before now m x u says
+complete_by before now m x u (inr none) = complete_none none.why
+  where
+    complete_none : ((x ≡ status.ReadFault) × Rose before.shelf_faults now.shelf_faults) ⊎ (x ≡ status.Memory) → IsComplete x
+    complete_none (inl w) = absurd (u.shelf w.1)
+    complete_none (inr e) = inr (inr e)
+
+complete_told : (before now : Outside) (x : Status) (o : Option (List ℕ)) → IfSome o (RunsText before now x) →
+    IfSome o (λ text. (m : SimpleModel) → IsModelText text m → IsUndisturbed before now → IsComplete x)
+complete_told before now x None r = tt
+complete_told before now x (Some text) r = λ m is u. complete_by before now m x u (r.reports m is)
+
+pub completes : (before now : Outside) (x : Status) (o : Option (List ℕ)) → RunsWords before now x o → Completes before now x o
+completes before now x None r = tt
+completes before now x (Some name) r = complete_told before now x (before.shelf name) r.1
 
 -- ---- by what the calls answered
 

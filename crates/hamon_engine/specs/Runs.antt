@@ -1,12 +1,13 @@
 -- What a run does with its words, its model and its log.
-use Rattle.std.specs.Prelude.{◌≡◌, ◌≢◌, ◌⊎◌, ℕ, ◌^◌, ◌≤◌, List, length, Option, None, Some, IfSome, ⊤}
+use Rattle.std.specs.Prelude.{◌≡◌, ◌≢◌, ◌⊎◌, ℕ, ◌^◌, ◌<◌, ◌≤◌, List, length, Option, None, Some, IfSome, ⊤}
+use Rattle.std.specs.Io.KnownBytes.{Consumes}
 use Rattle.mon_io.specs.Faults.{Rose}
 use Rattle.check_specs.specs.Models.{SimpleModel, IsTextOf}
 use Rattle.check_specs.specs.Report.{rules_of}
 use Rattle.hamon_engine.specs.declared.status.Status.{Status}
 use Rattle.hamon_engine.specs.declared.status.Status.TheVariants as status
 use Rattle.hamon_engine.specs.Codes.{line_of}
-use Rattle.hamon_engine.specs.Outcome.{Streams, Says, IsUntouched, TellsLine}
+use Rattle.hamon_engine.specs.Outcome.{Streams, Says, IsUntouched, TellsLine, log_limit}
 
 -- the log, the output and the shelf, before or after a run
 pub record Outside : Type 0 where
@@ -38,6 +39,23 @@ pub record RunsText (before now : Outside) (s : Status) (text : List ℕ) : Type
 abbrev pub RunsWords : Outside → Outside → Status → Option (List ℕ) → Type 0
 RunsWords before now s None = IsUntouched before.streams now.streams × ((s ≡ status.Words) ⊎ (s ≡ status.Memory))
 RunsWords before now s (Some name) = (s ≢ status.Words) × IfSome (before.shelf name) (RunsText before now s)
+
+-- no count of faults rose, and fewer bytes of the log were read than are read at most
+pub record IsUndisturbed (before now : Outside) : Type 0 where
+  pub log : Rose before.streams.log_faults now.streams.log_faults → ⊥
+  pub out : Rose before.streams.out_faults now.streams.out_faults → ⊥
+  pub shelf : Rose before.shelf_faults now.shelf_faults → ⊥
+  pub below : (read : List ℕ) → Consumes before.streams.log now.streams.log read → length read < log_limit
+
+-- the log was read to its end, or memory was wanted
+abbrev pub IsComplete : Status → Type 0
+IsComplete s = (s ≡ status.Clean) ⊎ ((s ≡ status.Alarm) ⊎ (s ≡ status.Memory))
+
+-- with a model's text and nothing that disturbs, a run is complete
+abbrev pub Completes : Outside → Outside → Status → Option (List ℕ) → Type 0
+Completes before now s None = ⊤
+Completes before now s (Some name) =
+    IfSome (before.shelf name) (λ text. (m : SimpleModel) → IsModelText text m → IsUndisturbed before now → IsComplete s)
 
 -- the causes of a status, also where no bytes are told
 abbrev pub HasCause : Outside → Outside → Status → Type 0

@@ -3,7 +3,7 @@ ghost use Rattle.std.specs.Prelude.{◌≡◌, ◌⊎◌, ◌≤◌, ◌^◌, le
 ghost use Rattle.hamon_engine.specs.declared.status.Status.TheVariants as status;
 ghost use Rattle.hamon_engine.specs.Codes.{line_of};
 ghost use Rattle.hamon_engine.specs.Words.{model_named};
-ghost use Rattle.hamon_engine.specs.Runs.{RunsWords, HasCause, IsTold, IsTheModel, LacksModel};
+ghost use Rattle.hamon_engine.specs.Runs.{RunsWords, Completes, HasCause, IsTold, IsTheModel, LacksModel};
 
 use crate::check::{report_log, write_all};
 use crate::model::SimpleModel;
@@ -115,6 +115,12 @@ pub fn run<S: Shelf, L: Source, O: Sink, D: Sink>(
 ) -> Status
     // What was written, by the words, the model's text and the log, where these are told.
     ensures report { RunsWords
+        (record { streams = record { log = L.told log.old; log_faults = L.faults log.old; out = O.taken out.old; out_faults = O.faults out.old }; shelf = S.text shelf.old; shelf_faults = S.faults shelf.old })
+        (record { streams = record { log = L.told log.new; log_faults = L.faults log.new; out = O.taken out.new; out_faults = O.faults out.new }; shelf = S.text shelf.new; shelf_faults = S.faults shelf.new })
+        result (model_named (map string_bytes words.now)) }
+
+    // Nothing but want of memory keeps it from the end of the log, where no object failed.
+    ensures complete { Completes
         (record { streams = record { log = L.told log.old; log_faults = L.faults log.old; out = O.taken out.old; out_faults = O.faults out.old }; shelf = S.text shelf.old; shelf_faults = S.faults shelf.old })
         (record { streams = record { log = L.told log.new; log_faults = L.faults log.new; out = O.taken out.new; out_faults = O.faults out.new }; shelf = S.text shelf.new; shelf_faults = S.faults shelf.new })
         result (model_named (map string_bytes words.now)) }

@@ -1,4 +1,4 @@
-use Rattle.hamon_engine.proofs.RunLemmas.{told_runs, told_cause}
+use Rattle.hamon_engine.proofs.RunLemmas.{told_runs, told_cause, completes}
 use Rattle.hamon_engine.proofs.command.run.Goals as goal
 
 pub returns-clause-report : goal.returns-clause-report
@@ -6,3 +6,6 @@ returns-clause-report g c = told_runs _ _ _ _ _ c.tell.ensures.same c.check-ende
 
 pub returns-clause-cause : goal.returns-clause-cause
 returns-clause-cause g c = told_cause _ _ (g.S.Shelf.text c.args.shelf.now) (g.S.Shelf.text c.check-ended.new.shelf) _ _ _ _ c.tell.ensures.same c.check-ended.ensures.cause
+
+pub returns-clause-complete : goal.returns-clause-complete
+returns-clause-complete g c = completes _ _ _ _ (told_runs _ _ _ _ _ c.tell.ensures.same c.check-ended.ensures.report)
