@@ -1,0 +1,4 @@
+pub mod SessionLemmas
+pub mod ReportLemmas
+pub mod ExampleReports
+pub mod ExampleTexts

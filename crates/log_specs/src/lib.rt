@@ -1,0 +1,68 @@
+//! The definitions of what a log says: its numbers, rows, sessions and report.
+#![tactic(auto)]
+
+ghost use Rattle.std.specs.Prelude.{◌≡◌, ℕ, List, All};
+ghost use Rattle.run_specs.specs.declared.Verdict.{Verdict};
+ghost use Rattle.run_specs.specs.WellFormed.{IsWellFormed};
+ghost use Rattle.report_specs.specs.Report.{AreBlocks, IsReportOf};
+ghost use Rattle.log_specs.specs.Blocks.{Task};
+ghost use Rattle.log_specs.specs.LogReports.{Known, rules_of, HasNoOverflowWord};
+
+pub mod examples;
+
+/// Why a text is no number of a log.
+#[derive(Clone, Copy, Debug, PartialEq, Eq)]
+pub enum NumberFault {
+    /// It is not written as a number.
+    Form,
+    /// It is too large, or has too many decimals.
+    Range,
+}
+
+/// Why a line is refused, in the order in which the causes are looked at.
+#[derive(Clone, Copy, Debug, PartialEq, Eq)]
+pub enum Refusal {
+    Long,
+    Text,
+    Fields,
+    Name,
+    Number,
+    Again,
+    Unknown,
+    Column,
+    Cells,
+    Time,
+    Limit,
+}
+
+/// At which alarms a run is printed.
+#[derive(Clone, Copy, Debug, PartialEq, Eq)]
+pub enum RunsMode {
+    None,
+    /// Where the session's sample before was no alarm.
+    First,
+    All,
+}
+
+/// How the lines of a log are read.
+#[derive(Clone, Copy, Debug, PartialEq, Eq)]
+pub enum LogForm {
+    /// A header, and then the samples of one session.
+    Check,
+    /// Rows of many sessions.
+    Watch,
+}
+
+/// Whatever was replied, two reports of the same lines leave the same sessions open, with the same samples, and as many accepted.
+pub fn same_sessions()
+    ensures { (task : Task) (lines : List (List ℕ)) (known other : Known) (n : ℕ) (x y : List ℕ) (rs qs : List Verdict) (a b : Known) →
+        known.state ≡ other.state → AreBlocks (rules_of task) known n lines x rs a → AreBlocks (rules_of task) other n lines y qs b →
+        a.state ≡ b.state }
+{}
+
+/// A report in which no line ends with the word `overflow` is unique, and so are its replies.
+pub fn one_report()
+    ensures { (task : Task) (lines : List (List ℕ)) (x y : List ℕ) (rs qs : List Verdict) → All IsWellFormed task.models →
+        HasNoOverflowWord x → HasNoOverflowWord y → IsReportOf (rules_of task) lines x rs → IsReportOf (rules_of task) lines y qs →
+        (x ≡ y) × (rs ≡ qs) }
+{}
