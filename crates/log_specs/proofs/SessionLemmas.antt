@@ -97,12 +97,12 @@ judged Check models at (b ∷ bytes) wf ok =
     either at.has_begun (judge_cells at (read_cells (b ∷ bytes))) (judge_header models at (read_header (b ∷ bytes)))
     (cells_suit at (read_cells (b ∷ bytes)) ok) (header_suits models at (read_header (b ∷ bytes)) wf)
 
-still_suited : (name : List ℕ) (sample : Sample) (s : LogSession) → IsSuited s → IsSuited (with_sample name sample s)
-still_suited name sample s h = one (has_name name s)
+still_suited : (s : LogSession) (sample : Sample) (t : LogSession) → IsSuited s → IsSuited t → IsSuited (with_sample s sample t)
+still_suited s sample t h k = one (has_name s.name t)
   where
-    one : (b : Bool) → IsSuited (if b then record s { samples = s.samples ++ sample ∷ [] } else s)
+    one : (b : Bool) → IsSuited (if b then record s { samples = s.samples ++ sample ∷ [] } else t)
     one true = h
-    one false = h
+    one false = k
 
 pub kept : (at : LogState) (j : Judgement) → Suits j → AllSuit at → AllSuit (state_after at j)
 kept at passed_over h ok = ok
@@ -111,5 +111,5 @@ kept at (opened s) h ok = All-push IsSuited at.open_sessions s ok h
 kept at (closed name) h ok = All-filter (λ s. not (has_name name s)) IsSuited at.open_sessions ok
 kept at flushed h ok = ok
 kept at (accepted s sample) h ok =
-    All-map IsSuited (with_sample s.name sample) at.open_sessions
-    (All-weaker IsSuited (λ t. IsSuited (with_sample s.name sample t)) (still_suited s.name sample) at.open_sessions ok)
+    All-map IsSuited (with_sample s sample) at.open_sessions
+    (All-weaker IsSuited (λ t. IsSuited (with_sample s sample t)) (λ t k. still_suited s sample t h k) at.open_sessions ok)

@@ -155,9 +155,9 @@ judge form models at (b ∷ bytes) = judge_text form models at (b ∷ bytes)
 
 -- ---- the state after a line
 
--- the session with one sample more, where it has this name
-abbrev pub with_sample : List ℕ → Sample → LogSession → LogSession
-with_sample name sample s = if has_name name s then record s { samples = s.samples ++ sample ∷ [] } else s
+-- in the place of a session of this name, the session s with one sample more
+abbrev pub with_sample : LogSession → Sample → LogSession → LogSession
+with_sample s sample t = if has_name s.name t then record s { samples = s.samples ++ sample ∷ [] } else t
 
 -- the state after what a line does; a refused line leaves all sessions as they were
 abbrev pub state_after : LogState → Judgement → LogState
@@ -167,7 +167,7 @@ state_after at (opened s) = record { open_sessions = at.open_sessions ++ s ∷ [
 state_after at (closed name) = record { open_sessions = filter (λ s. not (has_name name s)) at.open_sessions; accepted = at.accepted; has_begun = true }
 state_after at flushed = record at { has_begun = true }
 state_after at (accepted s sample) = record {
-  open_sessions = map (with_sample s.name sample) at.open_sessions;
+  open_sessions = map (with_sample s sample) at.open_sessions;
   accepted = at.accepted + 1;
   has_begun = true;
 }

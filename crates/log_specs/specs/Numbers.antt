@@ -1,7 +1,9 @@
 -- The numbers of a log: a sign, digits with a point among them, and an exponent.
-use Rattle.std.specs.Prelude.{ℕ, ◌+◌, ◌-◌, ◌*◌, ◌%◌, ◌^◌, List, [], ◌∷◌, Bool, true, false, ◌&&◌, ◌||◌, not, ◌==◌, nat_lt, nat_le, if◌then◌else◌, ℤ, pos, neg_ℤ, Option, Some, None, Result, Ok, Err}
+use Rattle.std.specs.Prelude.{ℕ, ◌<◌, ◌+◌, ◌-◌, ◌*◌, ◌%◌, ◌^◌, List, [], ◌∷◌, Bool, true, false, ◌&&◌, ◌||◌, not, ◌==◌, nat_lt, nat_le, if◌then◌else◌, ℤ, pos, neg_ℤ, unsigned_abs, Option, Some, None, Result, Ok, Err}
+use Rattle.std.specs.Int.{◌∣◌}
 use Rattle.poly_specs.specs.Fractions.{Fraction}
 use Rattle.poly_specs.specs.Arithmetic.{lowest}
+use Rattle.poly_specs.specs.LowestTerms.{IsLowest}
 use Rattle.run_specs.specs.Names.{is_digit}
 use Rattle.log_specs.specs.declared.NumberFault.{NumberFault}
 use Rattle.log_specs.specs.declared.NumberFault.TheVariants.{Form, Range}
@@ -129,3 +131,9 @@ number_of (Some d) = if is_in_range d then Ok (value_of d) else Err Range
 -- the exact value of a cell or a time, in lowest terms
 abbrev pub read_number : List ℕ → Result Fraction NumberFault
 read_number text = number_of (decimal_of text)
+
+-- a number that a log may hold: in lowest terms, below 10^15 on either side of 0, over a divisor of 10^18
+pub record IsLogNumber (v : Fraction) : Type 0 where
+  pub lowest_terms : IsLowest v
+  pub small : unsigned_abs v.num < 10 ^ 15 * unsigned_abs v.den
+  pub few_decimals : unsigned_abs v.den ∣ 10 ^ 18
