@@ -1,4 +1,5 @@
 pub mod NumberLemmas
+pub mod RowLemmas
 pub mod SessionLemmas
 pub mod ReportLemmas
 pub mod ExampleReports

@@ -1,7 +1,7 @@
 -- Laws of the reports of a log.
 use Rattle.std.proofs.Common.{◌≡◌, inl, inr, ◌⊎◌, ℕ, suc, List, [], ◌∷◌, ◌++◌, Bool, true, false, Option, Some, refl, sym, ◌∙◌, ap, subst, append_assoc, codes, decimal}
-use Rattle.std.specs.Prelude.{All}
-use Rattle.std.proofs.lemmas.List.Elements.{All-nil}
+use Rattle.std.specs.Prelude.{All, ⊤}
+use Rattle.std.proofs.lemmas.List.Elements.{All-nil, All-weaker}
 use Rattle.run_specs.specs.declared.Verdict.{Verdict}
 use Rattle.run_specs.specs.declared.Verdict.TheVariants.{Overflow}
 use Rattle.run_specs.specs.Automaton.{Automaton}
@@ -12,10 +12,14 @@ use Rattle.run_specs.specs.FirstRun.{IsFirstRun}
 use Rattle.run_specs.proofs.RunLemmas.{IsLawful-unique}
 use Rattle.run_specs.proofs.FirstRunLemmas.{one_first_run}
 use Rattle.report_specs.specs.Report.{AreBlocks, IsReportOf}
-use Rattle.log_specs.specs.LogSessions.{LogState, LogSession, Judgement, passed_over, refused, opened, closed, flushed, accepted, judge, state_after}
+use Rattle.log_specs.specs.LogSessions.{LogState, LogSession, KeepsLog, Judgement, passed_over, refused, opened, closed, flushed, accepted, judge, state_after}
 use Rattle.log_specs.specs.Blocks.{Task, LastReply, IsRunPart, IsAnswered, IsBlock, last_of, wants_run, printed_run, subject, verdict_word}
 use Rattle.log_specs.specs.LogReports.{Known, nothing_known, judgement, known_after, rules_of, HasNoOverflowWord}
-use Rattle.log_specs.proofs.SessionLemmas.{IsSuited, Suits, AllSuit, judged, kept}
+use Rattle.log_specs.proofs.SessionLemmas.{IsSound, Suits, AllSound, judged, kept, sound_keeps}
+
+-- each automaton is one
+abbrev Any : Automaton → Type 0
+Any a = ⊤
 
 -- ---- the sessions after a report
 
@@ -26,6 +30,22 @@ same_state task (line ∷ lines) known other n x y rs qs a b e p q =
     let next : p.4.state ≡ q.4.state =
     ap (λ (k : Known). k.state) p.7.next ∙ ap (λ s. state_after s (judge task.form task.models s line)) e ∙ sym (ap (λ (k : Known). k.state) q.7.next) in
     same_state task lines p.4 q.4 (suc n) p.1 q.1 p.3 q.3 a b next p.8 q.8
+
+-- ---- the samples after a report
+
+all_sound : (task : Task) (lines : List (List ℕ)) (known : Known) (n : ℕ) (x : List ℕ) (rs : List Verdict) (after : Known) → AllSound Any known.state →
+    AreBlocks (rules_of task) known n lines x rs after → AllSound Any after.state
+all_sound task [] known n x rs after ok p = subst (λ (k : Known). AllSound Any k.state) (sym p.2) ok
+all_sound task (line ∷ lines) known n x rs after ok p =
+    let suits = judged Any task.form task.models known.state line (λ k d lt. tt) ok in
+    let next : AllSound Any p.4.state = subst (λ (k : Known). AllSound Any k.state) (sym p.7.next) (kept Any known.state (judgement task known line) suits ok) in
+    all_sound task lines p.4 (suc n) p.1 p.3 after next p.8
+
+pub all_keep : (task : Task) (lines : List (List ℕ)) (x : List ℕ) (rs : List Verdict) (after : Known) →
+    AreBlocks (rules_of task) nothing_known 1 lines x rs after → All KeepsLog after.state.open_sessions
+all_keep task lines x rs after p =
+    All-weaker (IsSound Any) KeepsLog (sound_keeps Any) after.state.open_sessions
+    (all_sound task lines nothing_known 1 x rs after (All-nil (IsSound Any)) p)
 
 -- ---- the word `overflow`
 
@@ -75,7 +95,7 @@ answered_unique task last n s sample v w x y wf nx ny p q =
       same,
     )
 
-block_unique : (task : Task) (replied : List LastReply) (n : ℕ) (j : Judgement) (x y : List ℕ) (rs qs : List Verdict) → Suits j →
+block_unique : (task : Task) (replied : List LastReply) (n : ℕ) (j : Judgement) (x y : List ℕ) (rs qs : List Verdict) → Suits IsWellFormed j →
     HasNoOverflowWord x → HasNoOverflowWord y → IsBlock task replied n j x rs → IsBlock task replied n j y qs → (x ≡ y) × (rs ≡ qs)
 block_unique task replied n passed_over x y rs qs ok nx ny p q = (p.0 ∙ sym q.0, p.1 ∙ sym q.1)
 block_unique task replied n (refused e) x y rs qs ok nx ny p q = (p.0 ∙ sym q.0, p.1 ∙ sym q.1)
@@ -83,21 +103,21 @@ block_unique task replied n (opened s) x y rs qs ok nx ny p q = (p.0 ∙ sym q.0
 block_unique task replied n (closed m) x y rs qs ok nx ny p q = (p.0 ∙ sym q.0, p.1 ∙ sym q.1)
 block_unique task replied n flushed x y rs qs ok nx ny p q = (p.0 ∙ sym q.0, p.1 ∙ sym q.1)
 block_unique task replied n (accepted s sample) x y rs qs ok nx ny p q =
-    let both = answered_unique task (last_of replied s.name) n s sample p.0 q.0 x y ok nx ny p.1 q.1 in
+    let both = answered_unique task (last_of replied s.name) n s sample p.0 q.0 x y ok.automaton nx ny p.1 q.1 in
     (both.0, p.2 ∙ ap (λ v. v ∷ []) both.1 ∙ sym q.2)
 
 blocks_unique : (task : Task) (lines : List (List ℕ)) (known : Known) (n : ℕ) (x y : List ℕ) (rs qs : List Verdict) (a b : Known) →
-    All IsWellFormed task.models → AllSuit known.state → HasNoOverflowWord x → HasNoOverflowWord y →
+    All IsWellFormed task.models → AllSound IsWellFormed known.state → HasNoOverflowWord x → HasNoOverflowWord y →
     AreBlocks (rules_of task) known n lines x rs a → AreBlocks (rules_of task) known n lines y qs b → (x ≡ y) × (rs ≡ qs)
 blocks_unique task [] known n x y rs qs a b wf ok nx ny p q = (p.0 ∙ sym q.0, p.1 ∙ sym q.1)
 blocks_unique task (line ∷ lines) known n x y rs qs a b wf ok nx ny p q =
     let j = judgement task known line in
-    let suits = judged task.form task.models known.state line wf ok in
+    let suits = judged IsWellFormed task.form task.models known.state line wf ok in
     let nx' = subst HasNoOverflowWord p.5 nx in
     let ny' = subst HasNoOverflowWord q.5 ny in
     let here = block_unique task known.replied n j p.0 q.0 p.2 q.2 suits (no_word_front p.0 p.1 nx') (no_word_front q.0 q.1 ny') p.7.is_block q.7.is_block in
     let same : p.4 ≡ q.4 = p.7.next ∙ ap (λ zs. known_after known j zs) here.1 ∙ sym q.7.next in
-    let later : AllSuit q.4.state = subst (λ (k : Known). AllSuit k.state) (sym q.7.next) (kept known.state j suits ok) in
+    let later : AllSound IsWellFormed q.4.state = subst (λ (k : Known). AllSound IsWellFormed k.state) (sym q.7.next) (kept IsWellFormed known.state j suits ok) in
     let more = blocks_unique task lines q.4 (suc n) p.1 q.1 p.3 q.3 a b wf later (no_word_back p.0 p.1 nx') (no_word_back q.0 q.1 ny')
     (subst (λ k. AreBlocks (rules_of task) k (suc n) lines p.1 p.3 a) same p.8) q.8 in (
       p.5 ∙ ap (λ z. z ++ p.1) here.0 ∙ ap (λ z. q.0 ++ z) more.0 ∙ sym q.5,
@@ -107,4 +127,4 @@ blocks_unique task (line ∷ lines) known n x y rs qs a b wf ok nx ny p q =
 pub report_unique : (task : Task) (lines : List (List ℕ)) (x y : List ℕ) (rs qs : List Verdict) → All IsWellFormed task.models →
     HasNoOverflowWord x → HasNoOverflowWord y → IsReportOf (rules_of task) lines x rs → IsReportOf (rules_of task) lines y qs → (x ≡ y) × (rs ≡ qs)
 report_unique task lines x y rs qs wf nx ny p q =
-    blocks_unique task lines nothing_known 1 x y rs qs p.0 q.0 wf (All-nil IsSuited) nx ny p.1 q.1
+    blocks_unique task lines nothing_known 1 x y rs qs p.0 q.0 wf (All-nil (IsSound IsWellFormed)) nx ny p.1 q.1

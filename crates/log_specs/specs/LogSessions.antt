@@ -1,13 +1,14 @@
 -- What a line does to the open sessions, and which sessions are open after it.
-use Rattle.std.specs.Prelude.{ℕ, ◌+◌, List, [], ◌∷◌, ◌++◌, map, filter, find, length, Bool, true, false, ◌&&◌, not, ◌==◌, nat_le, int_lt, if◌then◌else◌, ◌*ℤ◌, Option, Some, None, Result, Ok, Err, bytes_eq}
+use Rattle.std.specs.Prelude.{ℕ, ◌+◌, List, [], ◌∷◌, ◌++◌, map, filter, find, length, Bool, true, false, ◌&&◌, not, ◌==◌, nat_le, int_lt, if◌then◌else◌, ◌*ℤ◌, Option, Some, None, Result, Ok, Err, All, IfSome, bytes_eq}
 use Rattle.std.specs.List.{list_any}
 use Rattle.poly_specs.specs.Fractions.{Fraction, zero_fraction}
-use Rattle.run_specs.specs.Automaton.{Automaton}
-use Rattle.run_specs.specs.Logs.{Sample}
+use Rattle.run_specs.specs.Automaton.{Automaton, width}
+use Rattle.run_specs.specs.Logs.{Sample, IsLog}
 use Rattle.log_specs.specs.declared.LogForm.{LogForm}
 use Rattle.log_specs.specs.declared.LogForm.TheVariants.{Check, Watch}
 use Rattle.log_specs.specs.declared.Refusal.{Refusal}
 use Rattle.log_specs.specs.declared.Refusal.TheVariants as why
+use Rattle.log_specs.specs.Numbers.{IsLogNumber}
 use Rattle.log_specs.specs.LogRows.{WatchRow, Cells, read_row, read_header, read_cells}
 use Rattle.log_specs.specs.LogRows as row
 
@@ -27,6 +28,16 @@ pub record LogState : Type 0 where
 -- before the first line
 abbrev pub no_lines : LogState
 no_lines = record { open_sessions = []; accepted = 0; has_begun = false }
+
+-- the sample's numbers are numbers that a log may hold
+pub record HasLogNumbers (s : Sample) : Type 0 where
+  pub time : IsLogNumber s.time
+  pub cells : All (λ cell. IfSome cell IsLogNumber) s.cells
+
+-- the session's samples are a log of its automaton's variables, with numbers that a log may hold
+pub record KeepsLog (s : LogSession) : Type 0 where
+  pub log : IsLog (width s.automaton) s.samples
+  pub numbers : All HasLogNumbers s.samples
 
 -- what a line does
 pub data Judgement : Type 0 where

@@ -1,12 +1,15 @@
 //! The definitions of what a log says: its numbers, rows, sessions and report.
 #![tactic(auto)]
 
-ghost use Rattle.std.specs.Prelude.{◌≡◌, ℕ, List, All};
+ghost use Rattle.std.specs.Prelude.{◌≡◌, ℕ, List, All, Ok};
 ghost use Rattle.run_specs.specs.declared.Verdict.{Verdict};
 ghost use Rattle.run_specs.specs.WellFormed.{IsWellFormed};
 ghost use Rattle.report_specs.specs.Report.{AreBlocks, IsReportOf};
+ghost use Rattle.poly_specs.specs.Fractions.{Fraction};
+ghost use Rattle.log_specs.specs.Numbers.{read_number, IsLogNumber};
+ghost use Rattle.log_specs.specs.LogSessions.{KeepsLog};
 ghost use Rattle.log_specs.specs.Blocks.{Task};
-ghost use Rattle.log_specs.specs.LogReports.{Known, rules_of, HasNoOverflowWord};
+ghost use Rattle.log_specs.specs.LogReports.{Known, nothing_known, rules_of, HasNoOverflowWord};
 
 pub mod examples;
 
@@ -65,4 +68,15 @@ pub fn one_report()
     ensures { (task : Task) (lines : List (List ℕ)) (x y : List ℕ) (rs qs : List Verdict) → All IsWellFormed task.models →
         HasNoOverflowWord x → HasNoOverflowWord y → IsReportOf (rules_of task) lines x rs → IsReportOf (rules_of task) lines y qs →
         (x ≡ y) × (rs ≡ qs) }
+{}
+
+/// A number that is read is in lowest terms, below 10^15 on either side of 0, and a whole number of parts of 10^18.
+pub fn numbers_are_in_range()
+    ensures { (text : List ℕ) (v : Fraction) → read_number text ≡ Ok v → IsLogNumber v }
+{}
+
+/// What a session accepts is a log: a cell for each variable, numbers in range, and times that rise.
+pub fn accepted_samples_are_a_log()
+    ensures { (task : Task) (lines : List (List ℕ)) (x : List ℕ) (rs : List Verdict) (after : Known) →
+        AreBlocks (rules_of task) nothing_known 1 lines x rs after → All KeepsLog after.state.open_sessions }
 {}
