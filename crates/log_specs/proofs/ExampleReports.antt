@@ -1,10 +1,10 @@
 -- Reports of logs that are judged by an automaton of no location: each reply is `impossible`.
 use Rattle.std.proofs.Common.{◌≡◌, ℕ, suc, List, [], ◌∷◌, ◌++◌, Bool, true, false, Option, Some, None, codes, decimal, refl, sym, ◌∙◌, ap, subst}
-use Rattle.std.specs.Prelude.{IsSomeAnd, slice_index_or, ◌&&◌}
+use Rattle.std.specs.Prelude.{IsSomeAnd, slice_index_or}
 use Rattle.std.specs.Fmt.{digits}
 use Rattle.std.specs.Str.{is_utf8, chars}
 use Rattle.csv.proofs.OnLiterals.{csv_on_literals}
-use Rattle.poly_specs.specs.Rows.{Row, AllHold}
+use Rattle.poly_specs.specs.Rows.{AllHold}
 use Rattle.poly_specs.specs.Elimination.{gcd}
 use Rattle.run_specs.specs.Automaton.{Automaton, Location, nowhere}
 use Rattle.run_specs.specs.Logs.{Sample}

@@ -1,13 +1,13 @@
 -- The numbers of a log are in lowest terms and in range.
-use Rattle.std.proofs.Common.{◌≡◌, ℕ, zero, suc, ◌+◌, ◌*◌, ◌%◌, ◌^◌, ◌<◌, Bool, true, false, ◌&&◌, if◌then◌else◌, List, [], ◌∷◌, Option, Some, None, Result, Ok, Err, refl, sym, ◌∙◌, ap, subst, arith, ℤ, pos, negsuc, ◌*ℤ◌, neg_ℤ, unsigned_abs}
-use Rattle.std.specs.Prelude.{⊤, IfSome, IfOk, nat_lt, nat_le, ◌==◌}
+use Rattle.std.proofs.Common.{◌≡◌, ℕ, zero, suc, ◌+◌, ◌*◌, ◌%◌, ◌^◌, ◌<◌, Bool, true, false, ◌&&◌, if◌then◌else◌, List, [], ◌∷◌, Option, Some, None, Result, Ok, Err, refl, sym, ◌∙◌, ap, subst, arith, ℤ, pos, ◌*ℤ◌, unsigned_abs}
+use Rattle.std.specs.Prelude.{IfSome, IfOk, nat_lt, nat_le, ◌==◌}
 use Rattle.std.specs.Int.{◌∣◌}
 use Rattle.std.proofs.Math.Nat.{lt_of_mul-lt-mul_left, dvd_of_mul-dvd-mul_left}
 use Rattle.std.proofs.lemmas.Bool.{eqb-true, ltb-true}
 use Rattle.std.proofs.lemmas.Int.{ints, unsigned_abs-mul}
 use Rattle.std.proofs.lemmas.Nat.Gcd.{dvd_of_mod-eq-zero}
 use Rattle.poly_specs.proofs.GcdLemmas.{gcd-positive, gcd-swap, dvd-coprime}
-use Rattle.poly_specs.proofs.LowestLemmas.{shared, size-positive, lowest-num, lowest-den, lowest-IsFraction, lowest-coprime, lowest-stays}
+use Rattle.poly_specs.proofs.LowestLemmas.{shared, lowest-num, lowest-den, lowest-IsFraction, lowest-coprime, lowest-stays}
 use Rattle.poly_specs.specs.Fractions.{Fraction, IsFraction}
 use Rattle.poly_specs.specs.Arithmetic.{lowest}
 use Rattle.log_specs.specs.declared.NumberFault.{NumberFault}
@@ -19,7 +19,6 @@ use Rattle.log_specs.specs.Numbers.{Digits, no_digits, mantissa_from, Exponent, 
 power-positive : (n : ℕ) → 0 < 10 ^ n
 power-positive zero = omega arith
 power-positive (suc n) = let h = power-positive n in omega (arith, h)
-
 
 either_bottom : (b : Bool) (x y : Decimal) → 0 < x.bottom → 0 < y.bottom → (z : Decimal) → z ≡ (if b then x else y) → 0 < z.bottom
 either_bottom true x y h k z e = subst (λ (d : Decimal). 0 < d.bottom) (sym e) h
@@ -88,9 +87,9 @@ value_is d h less divides =
       lowest_terms = record { positive = lowest-IsFraction x is; lowest_terms = lowest-stays x is };
       small = lt_of_mul-lt-mul_left g (scaled_less g (unsigned_abs (lowest x).num) (unsigned_abs (lowest x).den) (10 ^ 15) d.top d.bottom num den less);
       few_decimals = dvd-coprime (unsigned_abs (lowest x).den) (unsigned_abs (lowest x).num) (10 ^ 18) coprime
-      (dvd_of_mul-dvd-mul_left (unsigned_abs (lowest x).den) some
-      (scaled_divides g (unsigned_abs (lowest x).num) (unsigned_abs (lowest x).den) (10 ^ 18) d.top d.bottom num den divides))
-      (power-positive 18);
+          (dvd_of_mul-dvd-mul_left (unsigned_abs (lowest x).den) some
+          (scaled_divides g (unsigned_abs (lowest x).num) (unsigned_abs (lowest x).den) (10 ^ 18) d.top d.bottom num den divides))
+          (power-positive 18);
     }
 
 and_left : (a b : Bool) → a && b ≡ true → a ≡ true

@@ -1,5 +1,5 @@
 -- Laws of the reports of a log.
-use Rattle.std.proofs.Common.{◌≡◌, inl, inr, ◌⊎◌, ℕ, suc, List, [], ◌∷◌, ◌++◌, Bool, true, false, Option, Some, refl, sym, ◌∙◌, ap, subst, append_assoc, codes, decimal}
+use Rattle.std.proofs.Common.{◌≡◌, inl, inr, ℕ, suc, List, [], ◌∷◌, ◌++◌, Bool, true, false, Option, sym, ◌∙◌, ap, subst, append_assoc, codes, decimal}
 use Rattle.std.specs.Prelude.{All, ⊤}
 use Rattle.std.proofs.lemmas.List.Elements.{All-nil, All-weaker}
 use Rattle.run_specs.specs.declared.Verdict.{Verdict}
@@ -7,12 +7,11 @@ use Rattle.run_specs.specs.declared.Verdict.TheVariants.{Overflow}
 use Rattle.run_specs.specs.Automaton.{Automaton}
 use Rattle.run_specs.specs.WellFormed.{IsWellFormed}
 use Rattle.run_specs.specs.Logs.{Sample}
-use Rattle.run_specs.specs.Runs.{GapRun, Run}
-use Rattle.run_specs.specs.FirstRun.{IsFirstRun}
+use Rattle.run_specs.specs.Runs.{GapRun}
 use Rattle.run_specs.proofs.RunLemmas.{IsLawful-unique}
 use Rattle.run_specs.proofs.FirstRunLemmas.{one_first_run}
 use Rattle.report_specs.specs.Report.{AreBlocks, IsReportOf}
-use Rattle.log_specs.specs.LogSessions.{LogState, LogSession, KeepsLog, Judgement, passed_over, refused, opened, closed, flushed, accepted, judge, state_after}
+use Rattle.log_specs.specs.LogSessions.{LogSession, KeepsLog, Judgement, passed_over, refused, opened, closed, flushed, accepted, judge, state_after}
 use Rattle.log_specs.specs.Blocks.{Task, LastReply, IsRunPart, IsAnswered, IsBlock, last_of, wants_run, printed_run, subject, verdict_word}
 use Rattle.log_specs.specs.LogReports.{Known, nothing_known, judgement, known_after, rules_of, HasNoOverflowWord}
 use Rattle.log_specs.proofs.SessionLemmas.{IsSound, Suits, AllSound, judged, kept, sound_keeps}

@@ -1,6 +1,6 @@
 -- What stays true of the open sessions: their automata are those of the file, and their samples are logs.
 use Rattle.std.proofs.Common.{◌≡◌, inl, inr, ℕ, List, [], ◌∷◌, ◌++◌, length, Bool, true, false, not, ◌==◌, cond, if◌then◌else◌, T, Option, Some, None, Result, Ok, Err, refl, sym, subst, get_or}
-use Rattle.std.specs.Prelude.{All, ⊤, IfSome, IfOk, find, map, nat_le, bytes_eq}
+use Rattle.std.specs.Prelude.{All, ⊤, IfSome, IfOk, find, nat_le, bytes_eq}
 use Rattle.std.proofs.lemmas.Bool.{not-false}
 use Rattle.std.proofs.lemmas.List.{length-map}
 use Rattle.std.proofs.lemmas.List.Elements.{All-nil, All-head, All-tail, All-push, All-map, All-weaker, All-filter}
@@ -103,7 +103,7 @@ sample_is s c h = record {
   time = h.time;
   sized = length-map s.automaton.variables (cell_under s.columns c.cells);
   cells = All-map IsCell (cell_under s.columns c.cells) s.automaton.variables
-  (λ k d lt. cell_is s.columns c.cells (get_or s.automaton.variables k d) h.cells);
+      (λ k d lt. cell_is s.columns c.cells (get_or s.automaton.variables k d) h.cells);
 }
 
 sample_suits : (Q : Automaton → Type 0) (at : LogState) (c : Cells) (s : Option LogSession) → IsRead c → IfSome s (IsSound Q) → Suits Q (judge_sample at c s)

@@ -1,9 +1,9 @@
 -- Small logs and their reports, and a run and its text.
-use Rattle.std.specs.Prelude.{◌≡◌, ℕ, List, [], ◌∷◌, map, codes, pos, negsuc, true, false, None, Option, Some}
-use Rattle.poly_specs.specs.Fractions.{Fraction, zero_fraction}
+use Rattle.std.specs.Prelude.{ℕ, List, [], ◌∷◌, codes, pos, negsuc}
+use Rattle.poly_specs.specs.Fractions.{zero_fraction}
 use Rattle.poly_specs.specs.Rows.{over}
 use Rattle.run_specs.specs.Automaton.{Automaton}
-use Rattle.run_specs.specs.Runs.{Leg, GapRun, Run}
+use Rattle.run_specs.specs.Runs.{Leg, Run}
 use Rattle.run_specs.specs.declared.Verdict.{Verdict}
 use Rattle.run_specs.specs.declared.Verdict.TheVariants.{Impossible}
 use Rattle.log_specs.specs.declared.LogForm.{LogForm}

@@ -1,5 +1,5 @@
 -- The rows of `watch`, and the header and the lines of `check`.
-use Rattle.std.specs.Prelude.{ℕ, List, [], ◌∷◌, Bool, ◌&&◌, if◌then◌else◌, Option, Some, None, Result, Ok, Err, codes, bytes_eq}
+use Rattle.std.specs.Prelude.{ℕ, List, [], ◌∷◌, ◌&&◌, if◌then◌else◌, Option, Some, None, Result, Ok, Err, codes, bytes_eq}
 use Rattle.std.specs.List.{list_all}
 use Rattle.poly_specs.specs.Fractions.{Fraction}
 use Rattle.run_specs.specs.Names.{is_name}
