@@ -19,13 +19,15 @@ empty_tank = record { name = codes "T"; variables = codes "x" ∷ []; obs = zero
 abbrev pub task_in : LogForm → Task
 task_in form = record { form = form; models = empty_tank ∷ []; jumps = 2; runs = First }
 
--- ---- a log of `watch`, of which no sample is accepted
+-- ---- a log of `watch`
 
+-- no sample of it is accepted
 abbrev pub refused_log : List ℕ
 refused_log = ended_lines (
     codes "open,s,T,x" ∷ codes "open,s,T,x" ∷ codes "at,q,0,0" ∷ codes "open,r,T,y" ∷ codes "at,s,0" ∷ codes "at,s,0,0,0" ∷ codes "open,r,Z,x"
     ∷ codes "close,s" ∷ codes "at,s,0,0" ∷ codes "hello" ∷ codes "at,a b,0,0" ∷ codes "at,s,z,0" ∷ [])
 
+-- its report: lines 1 and 8 open and close a session
 abbrev pub refused_report : List ℕ
 refused_report = ended_lines (
     codes "2,refused,again" ∷ codes "3,refused,unknown" ∷ codes "4,refused,column" ∷ codes "5,refused,cells" ∷ codes "6,refused,cells"
@@ -37,6 +39,7 @@ refused_report = ended_lines (
 abbrev pub timed_log : List ℕ
 timed_log = ended_lines (codes "time,x" ∷ codes "0,0" ∷ codes "4,6" ∷ codes "3,6" ∷ codes "4,6" ∷ codes "10,6" ∷ [])
 
+-- its report
 abbrev pub timed_report : List ℕ
 timed_report = ended_lines (
     codes "2,impossible" ∷ codes "3,impossible" ∷ codes "4,refused,time" ∷ codes "5,refused,time" ∷ codes "6,impossible" ∷ [])
@@ -45,6 +48,7 @@ timed_report = ended_lines (
 abbrev pub number_log : List ℕ
 number_log = ended_lines (codes "time,x" ∷ codes "0,-0.0" ∷ codes "1e-05,0.00001" ∷ codes "1,1e15" ∷ codes "1,nan" ∷ codes "1, 1" ∷ [])
 
+-- its report
 abbrev pub number_report : List ℕ
 number_report = ended_lines (
     codes "2,impossible" ∷ codes "3,impossible" ∷ codes "4,refused,number" ∷ codes "5,refused,number" ∷ codes "6,impossible" ∷ [])
@@ -53,12 +57,13 @@ number_report = ended_lines (
 abbrev pub all_impossible : List Verdict
 all_impossible = Impossible ∷ Impossible ∷ Impossible ∷ []
 
--- ---- a run over thirds: to 1 in a time of 1/3, a jump, and 2/3 more
+-- ---- runs
 
 -- a leg of so many thirds to the value 1
 abbrev pub to_one : ℕ → Leg
 to_one t = record { length_of = pos t; at_end = pos 3 ∷ [] }
 
+-- over thirds: to 1 in a time of 1/3, a jump, and 2/3 more
 abbrev pub thirds : Run
 thirds = record {
   start = record { loc = 0; point = over (pos 1) (pos 0 ∷ []) };
@@ -71,11 +76,12 @@ thirds = record {
   } ∷ [];
 }
 
+-- its text
 abbrev pub thirds_text : List ℕ
 thirds_text = ended_lines (
     codes "run 1" ∷ codes "gap 3 0" ∷ codes "at 0" ∷ codes "stay 1" ∷ codes "at 3" ∷ codes "jump 0" ∷ codes "at 3" ∷ codes "stay 2" ∷ codes "at 3" ∷ [])
 
--- two variables, one of them below 0
+-- two variables, one of them below 0, and no jump
 abbrev pub below_zero : Run
 below_zero = record {
   start = record { loc = 12; point = over (pos 1) (negsuc 4 ∷ pos 7 ∷ []) };
@@ -88,5 +94,6 @@ below_zero = record {
   } ∷ [];
 }
 
+-- its text
 abbrev pub below_zero_text : List ℕ
 below_zero_text = ended_lines (codes "run 1" ∷ codes "gap 1 12" ∷ codes "at -5 7" ∷ codes "stay 0" ∷ codes "at -5 7" ∷ [])

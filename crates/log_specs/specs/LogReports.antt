@@ -1,9 +1,10 @@
 -- The report of a log, as an instance of reports.
-use Rattle.std.specs.Prelude.{◌≡◌, ℕ, List, [], ◌++◌, codes}
+use Rattle.std.specs.Prelude.{◌≡◌, ℕ, List, [], ◌++◌, Option, None, codes}
 use Rattle.run_specs.specs.declared.Verdict.{Verdict}
+use Rattle.run_specs.specs.Verdicts.{AreLawful}
 use Rattle.report_specs.specs.Report.{Rules}
-use Rattle.log_specs.specs.LogSessions.{LogState, no_lines, Judgement, judge, state_after}
-use Rattle.log_specs.specs.Blocks.{Task, LastReply, replied_after, IsBlock}
+use Rattle.log_specs.specs.LogSessions.{LogSession, LogState, no_lines, Judgement, judge, state_after}
+use Rattle.log_specs.specs.Blocks.{Task, LastReply, latest, replied_after, IsBlock}
 
 -- what is known between two lines: the sessions that are open and what was accepted, and the last replies to the sessions
 pub record Known : Type 0 where
@@ -34,3 +35,8 @@ rules_of task = record { start = nothing_known; IsLine = IsJudged task }
 -- no line of it ends with the word `overflow`
 abbrev pub HasNoOverflowWord : List ℕ → Type 0
 HasNoOverflowWord bytes = (front back : List ℕ) → bytes ≡ front ++ codes "overflow\n" ++ back → ⊥
+
+-- one reply for each sample of the session, all of them lawful, and this is the last one
+pub record WasReplied (task : Task) (s : LogSession) (last : Option Verdict) (replies : List Verdict) : Type 0 where
+  pub lawful : AreLawful s.automaton task.jumps s.samples replies
+  pub ends : last ≡ latest None replies

@@ -18,6 +18,7 @@ pub data WatchRow : Type 0 where
   sample : List ℕ → Fraction → List (Option Fraction) → WatchRow
   -- a session's name
   closing : List ℕ → WatchRow
+  -- the end of a window
   flush : WatchRow
 
 -- a time, and a cell for each column

@@ -44,8 +44,9 @@ pub data Judgement : Type 0 where
   -- it has no byte
   passed_over : Judgement
   refused : Refusal → Judgement
+  -- this session begins, without a sample
   opened : LogSession → Judgement
-  -- the session of this name
+  -- the session of this name ends
   closed : List ℕ → Judgement
   flushed : Judgement
   -- a sample of a session, which is given as it was before

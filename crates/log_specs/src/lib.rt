@@ -1,15 +1,15 @@
 //! The definitions of what a log says: its numbers, rows, sessions and report.
 #![tactic(auto)]
 
-ghost use Rattle.std.specs.Prelude.{◌≡◌, ℕ, List, All, Ok};
+ghost use Rattle.std.specs.Prelude.{◌≡◌, ℕ, List, All, Some, Ok};
 ghost use Rattle.run_specs.specs.declared.Verdict.{Verdict};
 ghost use Rattle.run_specs.specs.WellFormed.{IsWellFormed};
 ghost use Rattle.report_specs.specs.Report.{AreBlocks, IsReportOf};
 ghost use Rattle.poly_specs.specs.Fractions.{Fraction};
 ghost use Rattle.log_specs.specs.Numbers.{read_number, IsLogNumber};
-ghost use Rattle.log_specs.specs.LogSessions.{KeepsLog};
-ghost use Rattle.log_specs.specs.Blocks.{Task};
-ghost use Rattle.log_specs.specs.LogReports.{Known, nothing_known, rules_of, HasNoOverflowWord};
+ghost use Rattle.log_specs.specs.LogSessions.{LogSession, KeepsLog, session_of};
+ghost use Rattle.log_specs.specs.Blocks.{Task, last_of};
+ghost use Rattle.log_specs.specs.LogReports.{Known, nothing_known, rules_of, HasNoOverflowWord, WasReplied};
 
 pub mod examples;
 
@@ -79,4 +79,11 @@ pub fn numbers_are_in_range()
 pub fn accepted_samples_are_a_log()
     ensures { (task : Task) (lines : List (List ℕ)) (x : List ℕ) (rs : List Verdict) (after : Known) →
         AreBlocks (rules_of task) nothing_known 1 lines x rs after → All KeepsLog after.state.open_sessions }
+{}
+
+/// The last reply to an open session is the last of lawful replies, one for each of its samples: to know the last reply is enough.
+pub fn replies_are_lawful()
+    ensures { (task : Task) (lines : List (List ℕ)) (x : List ℕ) (rs : List Verdict) (after : Known) (name : List ℕ) (s : LogSession) →
+        AreBlocks (rules_of task) nothing_known 1 lines x rs after → session_of after.state name ≡ Some s →
+        (replies : List Verdict) × WasReplied task s (last_of after.replied name) replies }
 {}
