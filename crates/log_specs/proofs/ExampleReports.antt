@@ -18,7 +18,7 @@ use Rattle.log_specs.specs.declared.LogForm.TheVariants.{Check, Watch}
 use Rattle.log_specs.specs.LogSessions.{LogSession, Judgement, passed_over, refused, opened, closed, flushed, accepted}
 use Rattle.log_specs.specs.Blocks.{LastReply, IsAnswered, IsBlock, refusal_word, subject, last_of}
 use Rattle.log_specs.specs.LogReports.{Known, nothing_known, judgement, known_after, rules_of}
-use Rattle.log_specs.specs.Examples.{task_in, refused_log, refused_report, timed_log, timed_report, number_log, number_report, all_impossible}
+use Rattle.log_specs.specs.Examples.{task_in, refused_log, refused_report, reopened_log, reopened_report, headless_log, headless_report, timed_log, timed_report, number_log, number_report, all_impossible}
 
 -- a block, or several, and the replies in it
 record Part : Type 0 where
@@ -163,19 +163,33 @@ refused_parts : parts_of Watch nothing_known 1 (lines_of refused_log) ≡ Some (
 unfolding csv_on_literals is_utf8 chars lib.Utf8.encode digits gcd
 refused_parts = refl
 
-timed_parts : parts_of Check nothing_known 1 (lines_of timed_log) ≡ Some (record { bytes = timed_report; replies = all_impossible })
+timed_parts : parts_of Check nothing_known 1 (lines_of timed_log) ≡ Some (record { bytes = timed_report; replies = all_impossible 3 })
 unfolding csv_on_literals is_utf8 chars lib.Utf8.encode digits gcd
 timed_parts = refl
 
-number_parts : parts_of Check nothing_known 1 (lines_of number_log) ≡ Some (record { bytes = number_report; replies = all_impossible })
+number_parts : parts_of Check nothing_known 1 (lines_of number_log) ≡ Some (record { bytes = number_report; replies = all_impossible 3 })
 unfolding csv_on_literals is_utf8 chars lib.Utf8.encode digits gcd
 number_parts = refl
 
 pub refused_is : IsReport (rules_of (task_in Watch)) refused_log refused_report []
 refused_is = parts_are Watch nothing_known 1 (lines_of refused_log) (record { bytes = refused_report; replies = [] }) refused_parts
 
-pub timed_is : IsReport (rules_of (task_in Check)) timed_log timed_report all_impossible
-timed_is = parts_are Check nothing_known 1 (lines_of timed_log) (record { bytes = timed_report; replies = all_impossible }) timed_parts
+pub timed_is : IsReport (rules_of (task_in Check)) timed_log timed_report (all_impossible 3)
+timed_is = parts_are Check nothing_known 1 (lines_of timed_log) (record { bytes = timed_report; replies = all_impossible 3 }) timed_parts
 
-pub numbers_are : IsReport (rules_of (task_in Check)) number_log number_report all_impossible
-numbers_are = parts_are Check nothing_known 1 (lines_of number_log) (record { bytes = number_report; replies = all_impossible }) number_parts
+pub numbers_are : IsReport (rules_of (task_in Check)) number_log number_report (all_impossible 3)
+numbers_are = parts_are Check nothing_known 1 (lines_of number_log) (record { bytes = number_report; replies = all_impossible 3 }) number_parts
+
+reopened_parts : parts_of Watch nothing_known 1 (lines_of reopened_log) ≡ Some (record { bytes = reopened_report; replies = all_impossible 2 })
+unfolding csv_on_literals is_utf8 chars lib.Utf8.encode digits gcd
+reopened_parts = refl
+
+headless_parts : parts_of Check nothing_known 1 (lines_of headless_log) ≡ Some (record { bytes = headless_report; replies = [] })
+unfolding csv_on_literals is_utf8 chars lib.Utf8.encode digits gcd
+headless_parts = refl
+
+pub reopened_is : IsReport (rules_of (task_in Watch)) reopened_log reopened_report (all_impossible 2)
+reopened_is = parts_are Watch nothing_known 1 (lines_of reopened_log) (record { bytes = reopened_report; replies = all_impossible 2 }) reopened_parts
+
+pub headless_is : IsReport (rules_of (task_in Check)) headless_log headless_report []
+headless_is = parts_are Check nothing_known 1 (lines_of headless_log) (record { bytes = headless_report; replies = [] }) headless_parts

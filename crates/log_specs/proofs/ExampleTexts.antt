@@ -1,11 +1,11 @@
 -- Numbers, fields and run texts that compute.
-use Rattle.std.proofs.Common.{◌≡◌, [], ◌∷◌, codes, refl, Ok, Err, pos, negsuc}
+use Rattle.std.proofs.Common.{◌≡◌, [], ◌∷◌, codes, refl, Ok, Err, pos, negsuc, true, false, replicate}
 use Rattle.std.specs.Fmt.{digits}
 use Rattle.csv.proofs.OnLiterals.{csv_on_literals}
 use Rattle.poly_specs.specs.Elimination.{gcd}
 use Rattle.log_specs.specs.declared.NumberFault.TheVariants.{Form, Range}
 use Rattle.log_specs.specs.Numbers.{read_number}
-use Rattle.log_specs.specs.Fields.{fields_of}
+use Rattle.log_specs.specs.Fields.{fields_of, is_long}
 use Rattle.log_specs.specs.RunTexts.{run_text}
 use Rattle.log_specs.specs.Examples.{thirds, thirds_text, below_zero, below_zero_text}
 
@@ -27,3 +27,6 @@ fields = (refl, refl)
 pub texts : (run_text thirds ≡ thirds_text) × (run_text below_zero ≡ below_zero_text)
 unfolding digits
 texts = (refl, refl)
+
+pub lengths : (is_long (replicate 4096 48) ≡ false) × (is_long (replicate 4097 48) ≡ true)
+lengths = (refl, refl)

@@ -1,5 +1,5 @@
 -- Small logs and their reports, and a run and its text.
-use Rattle.std.specs.Prelude.{ℕ, List, [], ◌∷◌, codes, pos, negsuc}
+use Rattle.std.specs.Prelude.{ℕ, List, [], ◌∷◌, replicate, codes, pos, negsuc}
 use Rattle.poly_specs.specs.Fractions.{zero_fraction}
 use Rattle.poly_specs.specs.Rows.{over}
 use Rattle.run_specs.specs.Automaton.{Automaton}
@@ -33,7 +33,26 @@ refused_report = ended_lines (
     codes "2,refused,again" ∷ codes "3,refused,unknown" ∷ codes "4,refused,column" ∷ codes "5,refused,cells" ∷ codes "6,refused,cells"
     ∷ codes "7,refused,unknown" ∷ codes "9,refused,unknown" ∷ codes "10,refused,fields" ∷ codes "11,refused,name" ∷ codes "12,refused,number" ∷ [])
 
+-- a session that is closed and opened anew, and times that do not rise
+abbrev pub reopened_log : List ℕ
+reopened_log = ended_lines (
+    codes "open,s,T,x" ∷ codes "at,s,5,0" ∷ codes "close,s" ∷ codes "open,s,T" ∷ codes "at,s,-1" ∷ codes "at,s,0" ∷ codes "flush" ∷ codes "at,s,0.0" ∷ [])
+
+-- its report: the session that is opened anew begins anew, without columns
+abbrev pub reopened_report : List ℕ
+reopened_report = ended_lines (
+    codes "2,s,impossible" ∷ codes "5,refused,time" ∷ codes "6,s,impossible" ∷ codes "8,refused,time" ∷ [])
+
 -- ---- logs of `check`
+
+-- a refused header, and lines after it: with a number, without one, with a carriage return inside, and not UTF-8
+abbrev pub headless_log : List ℕ
+headless_log = ended_lines ([] ∷ codes "Time,x" ∷ codes "0,0" ∷ codes "time,x" ∷ codes "0,\r0" ∷ (255 ∷ []) ∷ [])
+
+-- its report: no session is open
+abbrev pub headless_report : List ℕ
+headless_report = ended_lines (
+    codes "2,refused,fields" ∷ codes "3,refused,unknown" ∷ codes "4,refused,number" ∷ codes "5,refused,text" ∷ codes "6,refused,text" ∷ [])
 
 -- a refused time does not become the last one
 abbrev pub timed_log : List ℕ
@@ -53,9 +72,9 @@ abbrev pub number_report : List ℕ
 number_report = ended_lines (
     codes "2,impossible" ∷ codes "3,impossible" ∷ codes "4,refused,number" ∷ codes "5,refused,number" ∷ codes "6,impossible" ∷ [])
 
--- three replies
-abbrev pub all_impossible : List Verdict
-all_impossible = Impossible ∷ Impossible ∷ Impossible ∷ []
+-- so many replies
+abbrev pub all_impossible : ℕ → List Verdict
+all_impossible n = replicate n Impossible
 
 -- ---- runs
 
