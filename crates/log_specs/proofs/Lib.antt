@@ -1,0 +1,7 @@
+pub mod NumberLemmas
+pub mod RowLemmas
+pub mod SessionLemmas
+pub mod ReportLemmas
+pub mod ReplyLemmas
+pub mod ExampleReports
+pub mod ExampleTexts

@@ -1,0 +1,9 @@
+pub mod Numbers
+pub mod SessionNames
+pub mod Fields
+pub mod LogRows
+pub mod LogSessions
+pub mod RunTexts
+pub mod Blocks
+pub mod LogReports
+pub mod Examples

@@ -1,0 +1,67 @@
+//! Small logs and their reports, which pin the definitions.
+
+ghost use Rattle.std.specs.Prelude.{◌≡◌, ◌++◌, [], ◌∷◌, codes, pos, negsuc, true, false, replicate, Ok, Err};
+ghost use Rattle.report_specs.specs.Lines.{lines_of};
+ghost use Rattle.report_specs.specs.Report.{IsReport};
+ghost use Rattle.log_specs.specs.declared.NumberFault.TheVariants.{Form, Range};
+ghost use Rattle.log_specs.specs.declared.LogForm.TheVariants.{Check, Watch};
+ghost use Rattle.log_specs.specs.Numbers.{read_number};
+ghost use Rattle.log_specs.specs.Fields.{fields_of, is_long};
+ghost use Rattle.log_specs.specs.RunTexts.{run_text};
+ghost use Rattle.log_specs.specs.Blocks.{printed_run};
+ghost use Rattle.log_specs.specs.LogReports.{rules_of};
+ghost use Rattle.log_specs.specs.Examples.{task_in, refused_log, refused_report, reopened_log, reopened_report, headless_log, headless_report, timed_log, timed_report, number_log, number_report, all_impossible, thirds, thirds_text, below_zero, below_zero_text};
+
+/// Each refused row has its word, the number of its line counts the accepted ones too, and a refused row changes nothing.
+pub fn refused_rows()
+    ensures { IsReport (rules_of (task_in Watch)) refused_log refused_report [] }
+{}
+
+/// A session that is closed and opened anew begins anew, and its replies name it.
+pub fn reopened_session()
+    ensures { IsReport (rules_of (task_in Watch)) reopened_log reopened_report (all_impossible 2) }
+{}
+
+/// After a refused header no session is open; a line of no text is refused before its fields are looked at.
+pub fn refused_header()
+    ensures { IsReport (rules_of (task_in Check)) headless_log headless_report [] }
+{}
+
+/// A line of 4,096 bytes is read, and a longer one is not.
+pub fn long_lines()
+    ensures { (is_long (replicate 4096 48) ≡ false) × (is_long (replicate 4097 48) ≡ true) }
+{}
+
+/// A refused time does not become the last one.
+pub fn refused_times()
+    ensures { IsReport (rules_of (task_in Check)) timed_log timed_report (all_impossible 3) }
+{}
+
+/// Numbers may have a sign, a point and an exponent, with blanks before them; 10^15 and words are none.
+pub fn refused_numbers()
+    ensures { IsReport (rules_of (task_in Check)) number_log number_report (all_impossible 3) }
+{}
+
+/// Numbers are exact and in lowest terms.
+pub fn some_numbers()
+    ensures { (read_number (codes "-.50e0") ≡ Ok (record { num = negsuc 0; den = pos 2 }))
+        × (read_number (codes "-0.0") ≡ Ok (record { num = pos 0; den = pos 1 }))
+        × (read_number (codes "999999999999999") ≡ Ok (record { num = pos 999999999999999; den = pos 1 }))
+        × (read_number (codes "+12.5E-1") ≡ Ok (record { num = pos 5; den = pos 4 })) }
+{}
+
+/// Texts that are no number: too large, too fine, and not of the form.
+pub fn no_numbers()
+    ensures { (read_number (codes "1e15") ≡ Err Range) × (read_number (codes "1e-19") ≡ Err Range) × (read_number (codes "nan") ≡ Err Form)
+        × (read_number (codes "0e00001") ≡ Err Form) × (read_number (codes ".") ≡ Err Form) × (read_number [] ≡ Err Form) }
+{}
+
+/// A field may be quoted, and blanks at its ends are dropped; a line without a byte has one empty field.
+pub fn some_fields()
+    ensures { (fields_of (codes "open, a b ,\"x,y\",") ≡ codes "open" ∷ codes "a b" ∷ codes "x,y" ∷ [] ∷ []) × (fields_of [] ≡ [] ∷ []) }
+{}
+
+/// The text of a run names its gaps, legs and jumps in order.
+pub fn some_run_texts()
+    ensures { (run_text thirds ≡ thirds_text) × (run_text below_zero ≡ below_zero_text) }
+{}
