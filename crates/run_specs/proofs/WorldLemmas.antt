@@ -1,9 +1,9 @@
--- The steps of a world: they are allowed, they lead to a world, and an allowed finish has one.
+-- The steps of a world: they are allowed, they lead to a world, and allowed events have them.
 use Rattle.std.proofs.Common.{◌≡◌, ◌≢◌, ◌⊎◌, inl, inr, ℕ, ◌+◌, ◌<◌, Bool, true, false, List, [], ◌∷◌, ◌++◌, length, length-append, Option, Some, None, refl, sym, ◌∙◌, ap, subst, arith}
 use Rattle.std.specs.Prelude.{All, slice_set, if◌then◌else◌}
 use Rattle.std.proofs.lemmas.Bool.{cases_lt}
 use Rattle.std.proofs.lemmas.List.Elements.{All-push, All-nil, All-head, All-tail}
-use Rattle.poly_specs.specs.Lists.{In}
+use Rattle.poly_specs.specs.Lists.{In, IsAmong}
 use Rattle.poly_specs.specs.Fractions.{Fraction, IsFraction, Below, difference, zero_fraction}
 use Rattle.poly_specs.specs.Arithmetic.{lowest}
 use Rattle.run_specs.proofs.ListLemmas.{in_set, in_get}
@@ -15,7 +15,7 @@ use Rattle.run_specs.specs.Logs.{Sample, IsSample, IsLog}
 use Rattle.run_specs.specs.Keys.{State, Key}
 use Rattle.run_specs.specs.SessionHistories.{Entry, IsEntry, SessionHistory, IsHistory, LaterGapsLast, opening_states, last_belief, belief_after, has_passed, has_overflowed, verdict_after, verdict_at}
 use Rattle.run_specs.specs.Sessions.{MonitorSession, IsMonitorSession, Phase, Idle, Begun, Missed, Filled, IsBegun, IsEntryFor, PhaseHolds, AreEntriesOf, AreColumns, accepted, last_time, IsInTime, key_for, key_wanted, wanted_for, wanted_in, wanted}
-use Rattle.run_specs.specs.Worlds.{World, IsWorld, Event, Begin, LookHit, LookMiss, Fill, Put, Finish, Told, KeysDiffer, SameEntries, IsPut, Changes, joined, IsStep, IsAllowed, IsEvent, LeadTo}
+use Rattle.run_specs.specs.Worlds.{World, IsWorld, Event, Begin, LookHit, LookMiss, Fill, Put, Finish, Told, HasKey, KeysDiffer, SameEntries, KeepsSome, IsAdded, IsPut, KeepsMemo, Changes, joined, IsLookMiss, IsStep, IsAllowed, IsEvent, IsOfSession, LeadTo}
 
 -- ---- steps are allowed
 
@@ -265,10 +265,10 @@ finished_is s sample is begun g phase nothing = record {
 -- ---- worlds
 
 -- one session changes, and the memo keeps its entries
-world_with : (w v : World) (i : ℕ) (s t : MonitorSession) → IsWorld w → Changes i w.sessions s t v.sessions → SameEntries w.memo v.memo → IsMonitorSession t → IsWorld v
+world_with : (w v : World) (i : ℕ) (s t : MonitorSession) → IsWorld w → Changes i w.sessions s t v.sessions → KeepsMemo w v → IsMonitorSession t → IsWorld v
 world_with w v i s t is c m h = record {
-  differ = m.differ;
-  entries = λ e j. is.entries e (m.no_more e j);
+  differ = m.same.differ;
+  entries = λ e j. is.entries e (m.same.no_more e j);
   sessions = sessions_with w v i s t is c h;
 }
   where
@@ -282,13 +282,17 @@ changing : (w : World) (i : ℕ) (s t : MonitorSession) (after : List MonitorSes
 changing w i s t after is c = is.sessions s (in_get w.sessions i s c.was)
 
 -- the entries after a put are entries
-put_entries : (before after : List Entry) (made : Entry) → IsPut before made after → IsEntry made → ((e : Entry) → In e before → IsEntry e) → (e : Entry) → In e after → IsEntry e
-put_entries before after made (inl p) is all e h = all e (p.1.no_more e h)
-put_entries before after made (inr p) is all e h = elim (p.1.no_more e h) [ inl same ↦ subst IsEntry (sym same) is | inr k ↦ all e k ]
+added_entries : (bounded : Bool) (before after : List Entry) (made : Entry) → IsAdded bounded before made after → IsAmong after (made ∷ before) × KeysDiffer after
+added_entries false before after made p = (p.no_more, p.differ)
+added_entries true before after made p = (p.no_more, p.differ)
 
-put_differ : (before after : List Entry) (made : Entry) → IsPut before made after → KeysDiffer after
-put_differ before after made (inl p) = p.1.differ
-put_differ before after made (inr p) = p.1.differ
+put_entries : (bounded : Bool) (before after : List Entry) (made : Entry) → IsPut bounded before made after → IsEntry made → ((e : Entry) → In e before → IsEntry e) → (e : Entry) → In e after → IsEntry e
+put_entries bounded before after made (inl p) is all e h = all e (p.1.no_more e h)
+put_entries bounded before after made (inr p) is all e h = elim ((added_entries bounded before after made p.1).0 e h) [ inl same ↦ subst IsEntry (sym same) is | inr k ↦ all e k ]
+
+put_differ : (bounded : Bool) (before after : List Entry) (made : Entry) → IsPut bounded before made after → KeysDiffer after
+put_differ bounded before after made (inl p) = p.1.differ
+put_differ bounded before after made (inr p) = (added_entries bounded before after made p.1).1
 
 missed_none : (s : MonitorSession) (sample : Sample) → IsMonitorSession s → s.phase ≡ Missed sample → s.given ≡ None
 missed_none s sample is e = go s.given refl
@@ -333,8 +337,8 @@ steps_keep w v (Put i) told is ev (s, t, sample, made, c, b, e) =
     (begun_there s (Some made) (Begun sample) sample known.0, entry_there s (Some made) (Begun sample) sample made known.1) in
     let new : IsMonitorSession t = subst IsMonitorSession (sym b.after_it) (turn s (Some made) (Begun sample) old holds) in
     record {
-      differ = put_differ w.memo v.memo made b.put;
-      entries = put_entries w.memo v.memo made b.put known.1.entry is.entries;
+      differ = put_differ w.is_bounded w.memo v.memo made b.put;
+      entries = put_entries w.is_bounded w.memo v.memo made b.put known.1.entry is.entries;
       sessions = λ x j. elim (in_set w.sessions i t x (subst (λ ss. In x ss) c.becomes j)) [
         | inl e ↦ subst IsMonitorSession (sym e) new
         | inr k ↦ is.sessions x k
@@ -347,23 +351,59 @@ steps_keep w v (Finish i) told is ev (s, t, sample, verdict, c, b, m, e) =
     (subst IsMonitorSession (sym b.after) (finished_is s sample old (begun_at s sample old b.begun) s.given (at_phase s (Begun sample) s.given old b.begun refl) nothing))
 
 pub lists_keep : (w v : World) (events : List Event) (told : List Told) → IsWorld w → All IsEvent events → LeadTo w events told v → IsWorld v
-lists_keep w v [] told is ev ((m, same), t) = record {
-  differ = m.differ;
-  entries = λ e j. is.entries e (m.no_more e j);
+lists_keep w v [] told is ev (m, same, t) = record {
+  differ = m.same.differ;
+  entries = λ e j. is.entries e (m.same.no_more e j);
   sessions = λ x j. is.sessions x (subst (λ ss. In x ss) (sym same) j);
 }
 lists_keep w v (event ∷ events) told is ev (u, now, later, step, rest, t) =
     lists_keep u v events later (steps_keep w u event now is (All-head IsEvent event events ev) step) (All-tail IsEvent event events ev) rest
 
-pub finish_steps : (w : World) (i : ℕ) → IsWorld w → IsAllowed w (Finish i) → (told : List Told) × (v : World) × IsStep w (Finish i) told v
+-- ---- allowed events have steps
+
+stays : (w : World) (ss : List MonitorSession) → IsWorld w → KeepsMemo w (record w { sessions = ss })
+stays w ss is = record { bound = refl; same = record { kept = λ x h. h; no_more = λ x h. h; differ = is.differ } }
+
+abbrev HasStep : World → Event → Type 0
+HasStep w event = (told : List Told) × (v : World) × IsStep w event told v
+
+begin_steps : (w : World) (i : ℕ) (sample : Sample) → IsWorld w → IsAllowed w (Begin i sample) → HasStep w (Begin i sample)
+begin_steps w i sample is (s, was, idle, may) =
+    let t : MonitorSession = record s { phase = Begun sample; given = None } in
+    let after = slice_set w.sessions i t in
+    ([], record w { sessions = after }, (s, t, record { was = was; becomes = refl }, record { idle = idle; may_begin = may; after = refl }, stays w after is, refl))
+
+hit_steps : (w : World) (i : ℕ) → IsWorld w → IsAllowed w (LookHit i) → HasStep w (LookHit i)
+hit_steps w i is (s, key, was, wants, (e, found, same)) =
+    let t : MonitorSession = record s { given = Some e } in
+    let after = slice_set w.sessions i t in
+    let wanted_e : wanted s ≡ Some e.key = wants ∙ ap (λ k. Some k) (sym same) in
+    ([], record w { sessions = after }, (s, t, e, record { was = was; becomes = refl }, record { wants = wanted_e; found = found; after = refl }, stays w after is, refl))
+
+miss_steps : (w : World) (i : ℕ) → IsWorld w → IsAllowed w (LookMiss i) → HasStep w (LookMiss i)
+miss_steps w i is (s, key, was, wants, lacking) =
+    let (sample, want) = wanting s key wants in
+    let same = (wants_from s sample key want.wants).is in
+    let t : MonitorSession = record s { phase = Missed sample } in
+    let after = slice_set w.sessions i t in
+    let miss : IsLookMiss w.memo sample s t = record {
+      begun = want.begun;
+      wants = wants ∙ ap (λ k. Some k) same;
+      lacking = subst (λ k. HasKey k w.memo → ⊥) same lacking;
+      after = refl;
+    } in
+    ([], record w { sessions = after }, (s, t, sample, record { was = was; becomes = refl }, miss, stays w after is, refl))
+
+finish_steps : (w : World) (i : ℕ) → IsWorld w → IsAllowed w (Finish i) → HasStep w (Finish i)
 finish_steps w i is (s, sample, was, begun, nothing) =
     let old = is.sessions s (in_get w.sessions i s was) in
     let none : wanted_for s sample s.given ≡ None = subst (λ phase. wanted_in s phase ≡ None) begun nothing in
     let new = finished_is s sample old (begun_at s sample old begun) s.given (at_phase s (Begun sample) s.given old begun refl) none in
     let verdict = new.told (length s.log) (omega (arith, length-append s.log (accepted s sample ∷ []))) in
-    let t : MonitorSession = finished s sample s.given in (
+    let t : MonitorSession = finished s sample s.given in
+    let after = slice_set w.sessions i t in (
       record { session = i; verdict = verdict.0 } ∷ [],
-      record { memo = w.memo; sessions = slice_set w.sessions i t },
+      record w { sessions = after },
       (
         s,
         t,
@@ -371,7 +411,29 @@ finish_steps w i is (s, sample, was, begun, nothing) =
         verdict.0,
         record { was = was; becomes = refl },
         record { begun = begun; nothing_wanted = nothing; tells = verdict.1; after = refl },
-        record { kept = λ x h. h; no_more = λ x h. h; differ = is.differ },
+        stays w after is,
         refl,
       ),
     )
+
+pub events_step : (w : World) (event : Event) → IsWorld w → IsAllowed w event → IsOfSession event → HasStep w event
+events_step w (Begin i sample) is h of = begin_steps w i sample is h
+events_step w (LookHit i) is h of = hit_steps w i is h
+events_step w (LookMiss i) is h of = miss_steps w i is h
+events_step w (Fill i) is h of = absurd of
+events_step w (Put i) is h of = absurd of
+events_step w (Finish i) is h of = finish_steps w i is h
+
+-- the memo after a put
+put_memo : (memo : List Entry) (made : Entry) → KeysDiffer memo → HasKey made.key memo ⊎ (HasKey made.key memo → ⊥) → (bounded : Bool) → (after : List Entry) × IsPut bounded memo made after
+put_memo memo made differ (inl has) bounded = (memo, inl (has, record { kept = λ x h. h; no_more = λ x h. h; differ = differ }))
+put_memo memo made differ (inr none) false = (made ∷ memo, inr (none, record { kept = λ x h. h; no_more = λ x h. h; differ = (none, differ) }))
+put_memo memo made differ (inr none) true = (made ∷ memo, inr (none, record { added = inl refl; no_more = λ x h. h; differ = (none, differ) }))
+
+pub puts_step : (w : World) (i : ℕ) → IsWorld w → IsAllowed w (Put i) → ((key : Key) → HasKey key w.memo ⊎ (HasKey key w.memo → ⊥)) → HasStep w (Put i)
+puts_step w i is (s, sample, made, was, filled) known =
+    let t : MonitorSession = record s { phase = Begun sample; given = Some made } in
+    let after = slice_set w.sessions i t in
+    let memo = put_memo w.memo made is.differ (known made.key) w.is_bounded in
+    ([], record { memo = memo.0; is_bounded = w.is_bounded; sessions = after },
+      (s, t, sample, made, record { was = was; becomes = refl }, record { filled = filled; bound = refl; put = memo.1; after_it = refl }, refl))

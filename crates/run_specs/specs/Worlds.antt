@@ -1,5 +1,5 @@
 -- A world of sessions that share a memo, and its steps.
-use Rattle.std.specs.Prelude.{◌≡◌, ◌⊎◌, ℕ, List, [], ◌∷◌, ◌++◌, length, Option, Some, None, slice_get, slice_set, if◌then◌else◌, ◌==◌, ⊤}
+use Rattle.std.specs.Prelude.{◌≡◌, ◌⊎◌, ℕ, Bool, true, false, List, [], ◌∷◌, ◌++◌, length, Option, Some, None, slice_get, slice_set, if◌then◌else◌, ◌==◌, ⊤}
 use Rattle.poly_specs.specs.Lists.{In, IsAmong}
 use Rattle.run_specs.specs.declared.Verdict.{Verdict}
 use Rattle.run_specs.specs.Logs.{Sample, IsSample}
@@ -7,9 +7,10 @@ use Rattle.run_specs.specs.Keys.{Key}
 use Rattle.run_specs.specs.SessionHistories.{Entry, IsEntry, SessionHistory, verdict_at}
 use Rattle.run_specs.specs.Sessions.{MonitorSession, IsMonitorSession, Idle, Begun, Missed, Filled, MayBegin, accepted, key_for, wanted}
 
--- the entries of the memo, in any order, and the sessions
+-- the entries of the memo, in any order; whether the memo has a bound, so that it may drop entries; and the sessions
 pub record World : Type 0 where
   pub memo : List Entry
+  pub is_bounded : Bool
   pub sessions : List MonitorSession
 
 -- one atomic step of the session of this number
@@ -41,10 +42,26 @@ pub record SameEntries (before after : List Entry) : Type 0 where
   pub no_more : IsAmong after before
   pub differ : KeysDiffer after
 
+-- the entry is there afterwards, and of the others some or all; none of them twice
+pub record KeepsSome (before : List Entry) (e : Entry) (after : List Entry) : Type 0 where
+  pub added : In e after
+  pub no_more : IsAmong after (e ∷ before)
+  pub differ : KeysDiffer after
+
+-- the entry is added; a memo without a bound keeps all others, and one with a bound may drop some
+abbrev pub IsAdded : Bool → List Entry → Entry → List Entry → Type 0
+IsAdded false before e after = SameEntries (e ∷ before) after
+IsAdded true before e after = KeepsSome before e after
+
 -- where the entry's key is present nothing changes; where it is absent the entry is added
-abbrev pub IsPut : List Entry → Entry → List Entry → Type 0
-IsPut before e after =
-    (HasKey e.key before × SameEntries before after) ⊎ ((HasKey e.key before → ⊥) × SameEntries (e ∷ before) after)
+abbrev pub IsPut : Bool → List Entry → Entry → List Entry → Type 0
+IsPut bounded before e after =
+    (HasKey e.key before × SameEntries before after) ⊎ ((HasKey e.key before → ⊥) × IsAdded bounded before e after)
+
+-- the memo stays
+pub record KeepsMemo (w v : World) : Type 0 where
+  pub bound : v.is_bounded ≡ w.is_bounded
+  pub same : SameEntries w.memo v.memo
 
 -- session i is s before and t after; the other sessions stay
 pub record Changes (i : ℕ) (before : List MonitorSession) (s t : MonitorSession) (after : List MonitorSession) : Type 0 where
@@ -83,9 +100,10 @@ pub record IsFill (sample : Sample) (made : Entry) (s t : MonitorSession) : Type
   pub after : t ≡ record s { phase = Filled sample made }
 
 -- the made entry is put into the memo, and given
-pub record IsPutStep (before after : List Entry) (sample : Sample) (made : Entry) (s t : MonitorSession) : Type 0 where
+pub record IsPutStep (w v : World) (sample : Sample) (made : Entry) (s t : MonitorSession) : Type 0 where
   pub filled : s.phase ≡ Filled sample made
-  pub put : IsPut before made after
+  pub bound : v.is_bounded ≡ w.is_bounded
+  pub put : IsPut w.is_bounded w.memo made v.memo
   pub after_it : t ≡ record s { phase = Begun sample; given = Some made }
 
 -- the sample joins the log, the given entry the history, which then tells the verdict at this sample's place
@@ -98,18 +116,18 @@ pub record IsFinish (sample : Sample) (v : Verdict) (s t : MonitorSession) : Typ
 -- the event leads from the world w to the world v and tells these verdicts
 abbrev pub IsStep : World → Event → List Told → World → Type 0
 IsStep w (Begin i sample) told v =
-    (s t : MonitorSession) × Changes i w.sessions s t v.sessions × IsBegin sample s t × SameEntries w.memo v.memo × (told ≡ [])
+    (s t : MonitorSession) × Changes i w.sessions s t v.sessions × IsBegin sample s t × KeepsMemo w v × (told ≡ [])
 IsStep w (LookHit i) told v =
-    (s t : MonitorSession) × (e : Entry) × Changes i w.sessions s t v.sessions × IsLookHit w.memo e s t × SameEntries w.memo v.memo × (told ≡ [])
+    (s t : MonitorSession) × (e : Entry) × Changes i w.sessions s t v.sessions × IsLookHit w.memo e s t × KeepsMemo w v × (told ≡ [])
 IsStep w (LookMiss i) told v =
-    (s t : MonitorSession) × (sample : Sample) × Changes i w.sessions s t v.sessions × IsLookMiss w.memo sample s t × SameEntries w.memo v.memo × (told ≡ [])
+    (s t : MonitorSession) × (sample : Sample) × Changes i w.sessions s t v.sessions × IsLookMiss w.memo sample s t × KeepsMemo w v × (told ≡ [])
 IsStep w (Fill i) told v =
-    (s t : MonitorSession) × (sample : Sample) × (made : Entry) × Changes i w.sessions s t v.sessions × IsFill sample made s t × SameEntries w.memo v.memo × (told ≡ [])
+    (s t : MonitorSession) × (sample : Sample) × (made : Entry) × Changes i w.sessions s t v.sessions × IsFill sample made s t × KeepsMemo w v × (told ≡ [])
 IsStep w (Put i) told v =
-    (s t : MonitorSession) × (sample : Sample) × (made : Entry) × Changes i w.sessions s t v.sessions × IsPutStep w.memo v.memo sample made s t × (told ≡ [])
+    (s t : MonitorSession) × (sample : Sample) × (made : Entry) × Changes i w.sessions s t v.sessions × IsPutStep w v sample made s t × (told ≡ [])
 IsStep w (Finish i) told v =
     (s t : MonitorSession) × (sample : Sample) × (verdict : Verdict) × Changes i w.sessions s t v.sessions × IsFinish sample verdict s t
-    × SameEntries w.memo v.memo × (told ≡ record { session = i; verdict = verdict } ∷ [])
+    × KeepsMemo w v × (told ≡ record { session = i; verdict = verdict } ∷ [])
 
 -- the event is allowed in the world
 abbrev pub IsAllowed : World → Event → Type 0
@@ -128,7 +146,7 @@ IsAllowed w (Finish i) =
 
 -- the events, one after the other, lead from w to v and tell these verdicts in order
 abbrev pub LeadTo : World → List Event → List Told → World → Type 0
-LeadTo w [] told v = (SameEntries w.memo v.memo × (w.sessions ≡ v.sessions)) × (told ≡ [])
+LeadTo w [] told v = KeepsMemo w v × (w.sessions ≡ v.sessions) × (told ≡ [])
 LeadTo w (event ∷ events) told v =
     (u : World) × (now later : List Told) × IsStep w event now u × LeadTo u events later v × (told ≡ now ++ later)
 
@@ -151,3 +169,12 @@ IsEvent (LookMiss i) = ⊤
 IsEvent (Fill i) = ⊤
 IsEvent (Put i) = ⊤
 IsEvent (Finish i) = ⊤
+
+-- an event that needs nothing but its session and the memo: no outcome, and no comparison of keys
+abbrev pub IsOfSession : Event → Type 0
+IsOfSession (Begin i sample) = ⊤
+IsOfSession (LookHit i) = ⊤
+IsOfSession (LookMiss i) = ⊤
+IsOfSession (Fill i) = ⊥
+IsOfSession (Put i) = ⊥
+IsOfSession (Finish i) = ⊤
