@@ -4,7 +4,7 @@ use Rattle.std.specs.List.{list_all}
 use Rattle.std.specs.Str.Parse.{digits_value}
 use Rattle.poly_specs.specs.Fractions.{Fraction, opposite}
 use Rattle.poly_specs.specs.Arithmetic.{lowest}
-use Rattle.run_specs.specs.Names.{is_digit}
+use Rattle.number_specs.specs.Digits.{is_digit}
 
 -- ---- numbers
 

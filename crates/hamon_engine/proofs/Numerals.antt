@@ -13,7 +13,7 @@ use Rattle.std.specs.Str.Parse.{ParsesSigned, ParsesUnsigned, digits_value}
 use Rattle.std.specs.List.{list_all}
 use Rattle.std.proofs.lemmas.Str.Parse.{IsNumeralModel, numerals_by_value, parse_gives, digits_value_short}
 use Rattle.std.proofs.lemmas.Int.Digits.{digits_value-lt}
-use Rattle.run_specs.specs.Names.{is_digit}
+use Rattle.number_specs.specs.Digits.{is_digit}
 use Rattle.check_specs.specs.Rows.{are_digits}
 use Rattle.std.specs.Int.RustNames.{FitsSigned}
 use Rattle.std.specs.Int.Signed.{mag}

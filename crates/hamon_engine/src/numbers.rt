@@ -2,7 +2,7 @@
 ghost use Rattle.std.specs.Prelude.{◌≡◌, ℕ, ◌+◌, ◌<◌, ◌≤◌, ◌^◌, length, take, drop, option_map, position, ◌==◌, Some, IsTrue, IfSome};
 ghost use Rattle.std.specs.Str.Parse.{digits_value};
 ghost use Rattle.std.specs.List.{list_all};
-ghost use Rattle.run_specs.specs.Names.{is_digit};
+ghost use Rattle.number_specs.specs.Digits.{is_digit};
 ghost use Rattle.check_specs.specs.Rows as rows;
 ghost use Rattle.check_specs.specs.Sizes.{IsSmall};
 

@@ -1,4 +1,3 @@
-pub mod NumberLemmas
 pub mod RowLemmas
 pub mod SessionLemmas
 pub mod ReportLemmas

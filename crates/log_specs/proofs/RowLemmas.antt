@@ -6,14 +6,14 @@ use Rattle.std.proofs.lemmas.List.Elements.{All-nil, All-cons}
 use Rattle.poly_specs.specs.Fractions.{Fraction}
 use Rattle.run_specs.specs.Logs.{Sample}
 use Rattle.run_specs.specs.Names.{is_name}
-use Rattle.log_specs.specs.declared.NumberFault.{NumberFault}
+use Rattle.number_specs.specs.declared.NumFault.{NumFault}
 use Rattle.log_specs.specs.declared.Refusal.{Refusal}
 use Rattle.log_specs.specs.declared.Refusal.TheVariants as why
-use Rattle.log_specs.specs.Numbers.{read_number, IsLogNumber}
+use Rattle.number_specs.specs.LogNumbers.{read_number, IsLogNumber}
 use Rattle.log_specs.specs.SessionNames.{is_session_name}
 use Rattle.log_specs.specs.Fields.{fields_of, is_long, is_text, read_by}
 use Rattle.log_specs.specs.LogRows.{WatchRow, Cells, opening, sample, closing, flush, with_cell, blank_first, cell_first, cells_of, timed, time_and_cells, as_sample, opening_of, sample_of, closing_of, flush_of, row_of, read_row, read_cells}
-use Rattle.log_specs.proofs.NumberLemmas.{read_is}
+use Rattle.number_specs.proofs.LogNumberLemmas.{read_is}
 
 -- a cell is blank, or a number of a log
 abbrev pub IsCell : Option Fraction → Type 0
@@ -42,7 +42,7 @@ IsReadRow flush = ⊤
 
 -- ---- cells
 
-with_cell_is : (r : Result Fraction NumberFault) (o : Option (List (Option Fraction))) → IfOk r IsLogNumber → IfSome o AreCells → IfSome (with_cell r o) AreCells
+with_cell_is : (r : Result Fraction NumFault) (o : Option (List (Option Fraction))) → IfOk r IsLogNumber → IfSome o AreCells → IfSome (with_cell r o) AreCells
 with_cell_is (Ok v) (Some cells) h k = All-cons IsCell (Some v) cells h k
 with_cell_is (Ok v) None h k = tt
 with_cell_is (Err e) o h k = tt
@@ -59,7 +59,7 @@ cells_are : (fields : List (List ℕ)) → IfSome (cells_of fields) AreCells
 cells_are [] = All-nil IsCell
 cells_are (field ∷ fields) = first_is field (cells_of fields) (cells_are fields)
 
-timed_is : (r : Result Fraction NumberFault) (o : Option (List (Option Fraction))) → IfOk r IsLogNumber → IfSome o AreCells → IfOk (timed r o) IsRead
+timed_is : (r : Result Fraction NumFault) (o : Option (List (Option Fraction))) → IfOk r IsLogNumber → IfSome o AreCells → IfOk (timed r o) IsRead
 timed_is (Ok t) (Some cells) h k = record { time = h; cells = k }
 timed_is (Ok t) None h k = tt
 timed_is (Err e) o h k = tt

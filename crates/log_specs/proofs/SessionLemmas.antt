@@ -13,7 +13,7 @@ use Rattle.log_specs.specs.declared.LogForm.{LogForm}
 use Rattle.log_specs.specs.declared.LogForm.TheVariants.{Check, Watch}
 use Rattle.log_specs.specs.declared.Refusal.{Refusal}
 use Rattle.log_specs.specs.declared.Refusal.TheVariants as why
-use Rattle.log_specs.specs.Numbers.{IsLogNumber}
+use Rattle.number_specs.specs.LogNumbers.{IsLogNumber}
 use Rattle.log_specs.specs.LogRows.{WatchRow, Cells, read_row, read_header, read_cells}
 use Rattle.log_specs.specs.LogRows as row
 use Rattle.log_specs.specs.LogSessions.{LogSession, LogState, HasLogNumbers, KeepsLog, Judgement, passed_over, refused, opened, closed, flushed, accepted, has_name, session_of, automaton_of, are_columns, cell_under, sample_in, is_below, may_follow, judge_columns, judge_opening, judge_sample, judge_closing, judge_row, first_automaton, judge_header, judge_cells, judge, with_sample, state_after}

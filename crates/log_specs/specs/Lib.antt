@@ -1,4 +1,3 @@
-pub mod Numbers
 pub mod SessionNames
 pub mod Fields
 pub mod LogRows

@@ -3,10 +3,10 @@ use Rattle.std.specs.Prelude.{ℕ, List, [], ◌∷◌, ◌&&◌, if◌then◌el
 use Rattle.std.specs.List.{list_all}
 use Rattle.poly_specs.specs.Fractions.{Fraction}
 use Rattle.run_specs.specs.Names.{is_name}
-use Rattle.log_specs.specs.declared.NumberFault.{NumberFault}
+use Rattle.number_specs.specs.declared.NumFault.{NumFault}
 use Rattle.log_specs.specs.declared.Refusal.{Refusal}
 use Rattle.log_specs.specs.declared.Refusal.TheVariants as why
-use Rattle.log_specs.specs.Numbers.{read_number}
+use Rattle.number_specs.specs.LogNumbers.{read_number}
 use Rattle.log_specs.specs.SessionNames.{is_session_name}
 use Rattle.log_specs.specs.Fields.{read_by}
 
@@ -29,7 +29,7 @@ pub record Cells : Type 0 where
 -- ---- numbers
 
 -- one value in front of the cells
-abbrev pub with_cell : Result Fraction NumberFault → Option (List (Option Fraction)) → Option (List (Option Fraction))
+abbrev pub with_cell : Result Fraction NumFault → Option (List (Option Fraction)) → Option (List (Option Fraction))
 with_cell (Ok v) (Some cells) = Some (Some v ∷ cells)
 with_cell (Ok v) None = None
 with_cell (Err e) cells = None
@@ -50,7 +50,7 @@ cells_of [] = Some []
 cells_of (field ∷ fields) = cell_first field (cells_of fields)
 
 -- a time and cells, where both are there
-abbrev pub timed : Result Fraction NumberFault → Option (List (Option Fraction)) → Result Cells Refusal
+abbrev pub timed : Result Fraction NumFault → Option (List (Option Fraction)) → Result Cells Refusal
 timed (Ok t) (Some cells) = Ok (record { time = t; cells = cells })
 timed (Ok t) None = Err why.Number
 timed (Err e) cells = Err why.Number

@@ -8,7 +8,7 @@ use Rattle.log_specs.specs.declared.LogForm.{LogForm}
 use Rattle.log_specs.specs.declared.LogForm.TheVariants.{Check, Watch}
 use Rattle.log_specs.specs.declared.Refusal.{Refusal}
 use Rattle.log_specs.specs.declared.Refusal.TheVariants as why
-use Rattle.log_specs.specs.Numbers.{IsLogNumber}
+use Rattle.number_specs.specs.LogNumbers.{IsLogNumber}
 use Rattle.log_specs.specs.LogRows.{WatchRow, Cells, read_row, read_header, read_cells}
 use Rattle.log_specs.specs.LogRows as row
 

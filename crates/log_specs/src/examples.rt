@@ -1,11 +1,9 @@
 //! Small logs and their reports, which pin the definitions.
 
-ghost use Rattle.std.specs.Prelude.{◌≡◌, ◌++◌, [], ◌∷◌, codes, pos, negsuc, true, false, replicate, Ok, Err};
+ghost use Rattle.std.specs.Prelude.{◌≡◌, [], ◌∷◌, codes, true, false, replicate};
 ghost use Rattle.report_specs.specs.Lines.{lines_of};
 ghost use Rattle.report_specs.specs.Report.{IsReport};
-ghost use Rattle.log_specs.specs.declared.NumberFault.TheVariants.{Form, Range};
 ghost use Rattle.log_specs.specs.declared.LogForm.TheVariants.{Check, Watch};
-ghost use Rattle.log_specs.specs.Numbers.{read_number};
 ghost use Rattle.log_specs.specs.Fields.{fields_of, is_long};
 ghost use Rattle.log_specs.specs.RunTexts.{run_text};
 ghost use Rattle.log_specs.specs.Blocks.{printed_run};
@@ -40,20 +38,6 @@ pub fn refused_times()
 /// Numbers may have a sign, a point and an exponent, with blanks before them; 10^15 and words are none.
 pub fn refused_numbers()
     ensures { IsReport (rules_of (task_in Check)) number_log number_report (all_impossible 3) }
-{}
-
-/// Numbers are exact and in lowest terms.
-pub fn some_numbers()
-    ensures { (read_number (codes "-.50e0") ≡ Ok (record { num = negsuc 0; den = pos 2 }))
-        × (read_number (codes "-0.0") ≡ Ok (record { num = pos 0; den = pos 1 }))
-        × (read_number (codes "999999999999999") ≡ Ok (record { num = pos 999999999999999; den = pos 1 }))
-        × (read_number (codes "+12.5E-1") ≡ Ok (record { num = pos 5; den = pos 4 })) }
-{}
-
-/// Texts that are no number: too large, too fine, and not of the form.
-pub fn no_numbers()
-    ensures { (read_number (codes "1e15") ≡ Err Range) × (read_number (codes "1e-19") ≡ Err Range) × (read_number (codes "nan") ≡ Err Form)
-        × (read_number (codes "0e00001") ≡ Err Form) × (read_number (codes ".") ≡ Err Form) × (read_number [] ≡ Err Form) }
 {}
 
 /// A field may be quoted, and blanks at its ends are dropped; a line without a byte has one empty field.

@@ -1,26 +1,15 @@
 //! The definitions of what a log says: its numbers, rows, sessions and report.
 #![tactic(auto)]
 
-ghost use Rattle.std.specs.Prelude.{◌≡◌, ℕ, List, All, Some, Ok};
+ghost use Rattle.std.specs.Prelude.{◌≡◌, ℕ, List, All, Some};
 ghost use Rattle.run_specs.specs.declared.Verdict.{Verdict};
 ghost use Rattle.run_specs.specs.WellFormed.{IsWellFormed};
 ghost use Rattle.report_specs.specs.Report.{AreBlocks, IsReportOf};
-ghost use Rattle.poly_specs.specs.Fractions.{Fraction};
-ghost use Rattle.log_specs.specs.Numbers.{read_number, IsLogNumber};
 ghost use Rattle.log_specs.specs.LogSessions.{LogSession, KeepsLog, session_of};
 ghost use Rattle.log_specs.specs.Blocks.{Task, last_of};
 ghost use Rattle.log_specs.specs.LogReports.{Known, nothing_known, rules_of, HasNoOverflowWord, WasReplied};
 
 pub mod examples;
-
-/// Why a text is no number of a log.
-#[derive(Clone, Copy, Debug, PartialEq, Eq)]
-pub enum NumberFault {
-    /// It is not written as a number.
-    Form,
-    /// It is too large, or has too many decimals.
-    Range,
-}
 
 /// Why a line is refused, in the order in which the causes are looked at.
 #[derive(Clone, Copy, Debug, PartialEq, Eq)]
@@ -68,11 +57,6 @@ pub fn one_report()
     ensures { (task : Task) (lines : List (List ℕ)) (x y : List ℕ) (rs qs : List Verdict) → All IsWellFormed task.models →
         HasNoOverflowWord x → HasNoOverflowWord y → IsReportOf (rules_of task) lines x rs → IsReportOf (rules_of task) lines y qs →
         (x ≡ y) × (rs ≡ qs) }
-{}
-
-/// A number that is read is in lowest terms, below 10^15 on either side of 0, and a whole number of parts of 10^18.
-pub fn numbers_are_in_range()
-    ensures { (text : List ℕ) (v : Fraction) → read_number text ≡ Ok v → IsLogNumber v }
 {}
 
 /// What a session accepts is a log: a cell for each variable, numbers in range, and times that rise.

@@ -2,7 +2,9 @@ pub mod Lists
 pub mod Fractions
 pub mod Bits
 pub mod Rows
+pub mod Columns
 pub mod Elimination
+pub mod KeptRows
 pub mod Sets
 pub mod Picks
 pub mod Bounds

@@ -13,6 +13,7 @@ ghost use Rattle.poly_specs.specs.Picks.{IsPick};
 
 pub mod picks;
 pub mod projections;
+pub mod rows;
 
 /// Equal points satisfy the same rows.
 pub fn equal_points()

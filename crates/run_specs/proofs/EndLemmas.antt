@@ -14,7 +14,8 @@ use Rattle.poly_specs.specs.Elimination.{eliminated_each, columns_down}
 use Rattle.run_specs.specs.Automaton.{Automaton, Location, width, location_at, transition_at}
 use Rattle.run_specs.specs.WellFormed.{IsLocation}
 use Rattle.run_specs.specs.Ends.{SomeLegEnds, SomeJumpEnds}
-use Rattle.run_specs.specs.Stages.{zeros, cut, rows_after, row_of, leg_before, leg_inside_before, leg_inside_after, leg_slope, leg_rows, leg_point, leg_stage, jump_before, jump_related, jump_inside_after, jump_rows, jump_point, jump_stage}
+use Rattle.poly_specs.specs.Columns.{cut}
+use Rattle.run_specs.specs.Stages.{zeros, rows_after, row_of, leg_before, leg_inside_before, leg_inside_after, leg_slope, leg_rows, leg_point, leg_stage, jump_before, jump_related, jump_inside_after, jump_rows, jump_point, jump_stage}
 
 -- ---- widths
 

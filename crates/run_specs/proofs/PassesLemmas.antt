@@ -8,7 +8,8 @@ use Rattle.poly_specs.specs.Rows.{Row}
 use Rattle.run_specs.specs.Automaton.{Automaton, location_at, width, transition_at}
 use Rattle.run_specs.specs.Logs.{Sample}
 use Rattle.run_specs.specs.Runs.{end_loc}
-use Rattle.run_specs.specs.Stages.{Stage, SomeReachedPasses, gaps_stages, gap_stages, gap_rows, opening_stage, rows_after, cut, leg_stage, leg_rows, leg_before, jump_stage, jump_rows, jump_before, path_rows, gap_start, sample_rows, row_of, leg_slope, at_most, at_least, seen_rows, below}
+use Rattle.poly_specs.specs.Columns.{cut}
+use Rattle.run_specs.specs.Stages.{Stage, SomeReachedPasses, gaps_stages, gap_stages, gap_rows, opening_stage, rows_after, leg_stage, leg_rows, leg_before, jump_stage, jump_rows, jump_before, path_rows, gap_start, sample_rows, row_of, leg_slope, at_most, at_least, seen_rows, below}
 use Rattle.run_specs.specs.Passes.{OpeningPasses, AllFit, LogPasses, history_stages}
 
 reached_more : (xs ys zs : List Stage) → (SomeReachedPasses ys → SomeReachedPasses zs) → SomeReachedPasses (xs ++ ys) → SomeReachedPasses (xs ++ zs)

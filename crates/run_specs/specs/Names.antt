@@ -1,14 +1,11 @@
 -- The names of automata, variables, locations and transitions, as lists of bytes.
 use Rattle.std.specs.Prelude.{ℕ, List, [], ◌∷◌, length, Bool, false, ◌&&◌, ◌||◌, not, ◌==◌, nat_le, codes, bytes_eq}
 use Rattle.std.specs.List.{list_any, list_all}
+use Rattle.number_specs.specs.Digits.{is_digit}
 
 -- A to Z, or a to z
 abbrev pub is_letter : ℕ → Bool
 is_letter b = (nat_le 65 b && nat_le b 90) || (nat_le 97 b && nat_le b 122)
-
--- 0 to 9
-abbrev pub is_digit : ℕ → Bool
-is_digit b = nat_le 48 b && nat_le b 57
 
 -- a letter, a digit or `_`
 abbrev pub is_word_byte : ℕ → Bool

@@ -4,6 +4,7 @@ use Rattle.poly_specs.specs.Lists.{number_at}
 use Rattle.poly_specs.specs.Fractions.{Fraction, opposite, difference}
 use Rattle.poly_specs.specs.Arithmetic.{least_sum, sum_numbers}
 use Rattle.poly_specs.specs.Rows.{Point, Row, HasPoint, over, with_coef}
+use Rattle.poly_specs.specs.Columns.{cut}
 use Rattle.poly_specs.specs.Bits.{SomePasses}
 use Rattle.poly_specs.specs.Elimination.{divided, eliminated_each, formed_each, columns_down}
 use Rattle.run_specs.specs.Automaton.{Automaton, width, location_at, transition_at, tolerance_at}
@@ -20,10 +21,6 @@ pub record Stage : Type 0 where
   pub again : List Row
   pub left : ℕ
   pub sums : List ℤ
-
--- the row's first n columns
-abbrev pub cut : ℕ → Row → Row
-cut n r = record r { coef = take n r.coef }
 
 -- the rows after the stage, in the columns that are left
 unfoldable pub rows_after : Stage → List Row

@@ -4,9 +4,9 @@ use Rattle.std.specs.Int.{◌∣◌}
 use Rattle.poly_specs.specs.Fractions.{Fraction}
 use Rattle.poly_specs.specs.Arithmetic.{lowest}
 use Rattle.poly_specs.specs.LowestTerms.{IsLowest}
-use Rattle.run_specs.specs.Names.{is_digit}
-use Rattle.log_specs.specs.declared.NumberFault.{NumberFault}
-use Rattle.log_specs.specs.declared.NumberFault.TheVariants.{Form, Range}
+use Rattle.number_specs.specs.Digits.{is_digit}
+use Rattle.number_specs.specs.declared.NumFault.{NumFault}
+use Rattle.number_specs.specs.declared.NumFault.TheVariants.{Form, Range}
 
 -- ---- what is written
 
@@ -124,12 +124,12 @@ abbrev pub value_of : Decimal → Fraction
 value_of d = lowest (record { num = signed d.is_negative d.top; den = pos d.bottom })
 
 -- the value of what is written, where it is in range
-abbrev pub number_of : Option Decimal → Result Fraction NumberFault
+abbrev pub number_of : Option Decimal → Result Fraction NumFault
 number_of None = Err Form
 number_of (Some d) = if is_in_range d then Ok (value_of d) else Err Range
 
 -- the exact value of a cell or a time, in lowest terms
-abbrev pub read_number : List ℕ → Result Fraction NumberFault
+abbrev pub read_number : List ℕ → Result Fraction NumFault
 read_number text = number_of (decimal_of text)
 
 -- a number that a log may hold: in lowest terms, below 10^15 on either side of 0, over a divisor of 10^18

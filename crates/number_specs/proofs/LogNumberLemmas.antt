@@ -10,9 +10,9 @@ use Rattle.poly_specs.proofs.GcdLemmas.{gcd-positive, gcd-swap, dvd-coprime}
 use Rattle.poly_specs.proofs.LowestLemmas.{shared, lowest-num, lowest-den, lowest-IsFraction, lowest-coprime, lowest-stays}
 use Rattle.poly_specs.specs.Fractions.{Fraction, IsFraction}
 use Rattle.poly_specs.specs.Arithmetic.{lowest}
-use Rattle.log_specs.specs.declared.NumberFault.{NumberFault}
-use Rattle.log_specs.specs.declared.NumberFault.TheVariants.{Range}
-use Rattle.log_specs.specs.Numbers.{Digits, no_digits, mantissa_from, Exponent, exponent_of, Decimal, moved, with_exponent, unsigned_of, decimal_of, is_in_range, signed, value_of, number_of, read_number, IsLogNumber}
+use Rattle.number_specs.specs.declared.NumFault.{NumFault}
+use Rattle.number_specs.specs.declared.NumFault.TheVariants.{Range}
+use Rattle.number_specs.specs.LogNumbers.{Digits, no_digits, mantissa_from, Exponent, exponent_of, Decimal, moved, with_exponent, unsigned_of, decimal_of, is_in_range, signed, value_of, number_of, read_number, IsLogNumber}
 
 -- ---- what is written has a positive bottom
 
@@ -114,7 +114,7 @@ number_is (Some d) h = ranged d (is_in_range d) h refl
 pub read_is : (text : List ℕ) → IfOk (read_number text) IsLogNumber
 read_is text = number_is (decimal_of text) (decimal_bottom text)
 
-ok_is : (r : Result Fraction NumberFault) (v : Fraction) → r ≡ Ok v → IfOk r IsLogNumber → IsLogNumber v
+ok_is : (r : Result Fraction NumFault) (v : Fraction) → r ≡ Ok v → IfOk r IsLogNumber → IsLogNumber v
 ok_is r v e h = subst (λ s. IfOk s IsLogNumber) e h
 
 pub numbers_are : (text : List ℕ) (v : Fraction) → read_number text ≡ Ok v → IsLogNumber v

@@ -1,5 +1,0 @@
-use Rattle.log_specs.proofs.ExampleTexts.{no_numbers}
-use Rattle.log_specs.proofs.examples.no_numbers.Goals as goal
-
-pub returns : goal.returns
-returns c = no_numbers

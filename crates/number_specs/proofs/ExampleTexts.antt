@@ -1,0 +1,36 @@
+-- Numbers and their texts that compute.
+use Rattle.std.proofs.Common.{◌≡◌, [], codes, refl, Ok, Err, pos, negsuc}
+use Rattle.std.specs.Fmt.{digits}
+use Rattle.poly_specs.specs.Elimination.{gcd}
+use Rattle.number_specs.specs.declared.NumFault.TheVariants.{Form, Range}
+use Rattle.number_specs.specs.LogNumbers.{read_number}
+use Rattle.number_specs.specs.Literals.{read_literal}
+use Rattle.number_specs.specs.FractionTexts.{fraction_text}
+
+pub numbers : (read_number (codes "-.50e0") ≡ Ok (record { num = negsuc 0; den = pos 2 }))
+    × (read_number (codes "-0.0") ≡ Ok (record { num = pos 0; den = pos 1 }))
+    × (read_number (codes "999999999999999") ≡ Ok (record { num = pos 999999999999999; den = pos 1 }))
+    × (read_number (codes "+12.5E-1") ≡ Ok (record { num = pos 5; den = pos 4 }))
+unfolding gcd
+numbers = (refl, refl, refl, refl)
+
+pub no_numbers : (read_number (codes "1e15") ≡ Err Range) × (read_number (codes "1e-19") ≡ Err Range) × (read_number (codes "nan") ≡ Err Form)
+    × (read_number (codes "0e00001") ≡ Err Form) × (read_number (codes ".") ≡ Err Form) × (read_number [] ≡ Err Form)
+no_numbers = (refl, refl, refl, refl, refl, refl)
+
+pub literals : (read_literal (codes "007") ≡ Ok (record { num = pos 7; den = pos 1 }))
+    × (read_literal (codes "6/4") ≡ Ok (record { num = pos 3; den = pos 2 }))
+    × (read_literal (codes "1.50") ≡ Ok (record { num = pos 3; den = pos 2 }))
+    × (read_literal (codes "999999999/999999998") ≡ Ok (record { num = pos 999999999; den = pos 999999998 }))
+unfolding gcd
+literals = (refl, refl, refl, refl)
+
+pub no_literals : (read_literal (codes "1234567890") ≡ Err Range) × (read_literal (codes "1/1234567890") ≡ Err Range)
+    × (read_literal (codes "12345.67890") ≡ Err Range) × (read_literal (codes "1234567890/0") ≡ Err Form)
+    × (read_literal (codes "-1") ≡ Err Form) × (read_literal (codes "1e5") ≡ Err Form)
+    × (read_literal (codes ".5") ≡ Err Form) × (read_literal (codes "5.") ≡ Err Form) × (read_literal [] ≡ Err Form)
+no_literals = (refl, refl, refl, refl, refl, refl, refl, refl, refl)
+
+pub texts : (fraction_text (record { num = negsuc 2; den = pos 2 }) ≡ codes "-3/2") × (fraction_text (record { num = pos 0; den = pos 1 }) ≡ codes "0")
+unfolding digits
+texts = (refl, refl)

@@ -1,0 +1,2 @@
+pub mod LogNumberLemmas
+pub mod ExampleTexts

@@ -1,0 +1,4 @@
+pub mod Digits
+pub mod LogNumbers
+pub mod Literals
+pub mod FractionTexts

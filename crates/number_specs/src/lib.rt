@@ -1,0 +1,45 @@
+//! The definitions of numbers that are written: in a log, in a model, and in what is printed.
+#![tactic(auto)]
+
+ghost use Rattle.std.specs.Prelude.{◌≡◌, ℕ, List, ℤ, ◌<◌, ◌^◌, pos, unsigned_abs, Ok};
+ghost use Rattle.poly_specs.specs.Fractions.{Fraction};
+ghost use Rattle.poly_specs.specs.LowestTerms.{IsLowest};
+ghost use Rattle.number_specs.specs.LogNumbers.{read_number, IsLogNumber};
+ghost use Rattle.number_specs.specs.Literals.{read_literal, IsLiteralNumber};
+ghost use Rattle.number_specs.specs.FractionTexts.{fraction_text};
+
+pub mod examples;
+
+/// Why a text is no number.
+#[derive(Clone, Copy, Debug, PartialEq, Eq)]
+pub enum NumFault {
+    /// It is not written as a number.
+    Form,
+    /// It is too large, or has too many decimals or digits.
+    Range,
+}
+
+/// A number of a log that is read is in lowest terms, below 10^15 on either side of 0, and a whole number of parts of 10^18.
+pub fn numbers_are_in_range()
+    ensures { (text : List ℕ) (v : Fraction) → read_number text ≡ Ok v → IsLogNumber v }
+{}
+
+/// A literal that is read is in lowest terms and at least 0, and both of its numbers have at most nine digits.
+pub fn literals_are_small()
+    ensures { (text : List ℕ) (v : Fraction) → read_literal text ≡ Ok v → IsLiteralNumber v }
+{}
+
+/// The text of a whole number below 10^15 on either side of 0 is read, in a log, as that number.
+pub fn whole_numbers_are_read_back()
+    ensures { (n : ℤ) → unsigned_abs n < 10 ^ 15 → read_number (fraction_text (record { num = n; den = pos 1 })) ≡ Ok (record { num = n; den = pos 1 }) }
+{}
+
+/// The text of a number that a literal may write is read, in a model, as that number.
+pub fn literals_are_read_back()
+    ensures { (x : Fraction) → IsLiteralNumber x → read_literal (fraction_text x) ≡ Ok x }
+{}
+
+/// The texts of two fractions in lowest terms are equal only where the fractions are.
+pub fn texts_tell_fractions_apart()
+    ensures { (x y : Fraction) → IsLowest x → IsLowest y → fraction_text x ≡ fraction_text y → x ≡ y }
+{}
