@@ -12,3 +12,4 @@ pub mod PickExistence
 pub mod GcdLemmas
 pub mod LowestLemmas
 pub mod PrimitiveLemmas
+pub mod RowLemmas

@@ -1,5 +1,5 @@
 -- Rows whose columns are moved or cut, and rows that say less than others.
-use Rattle.std.specs.Prelude.{◌≡◌, ◌⊎◌, ℕ, ◌<◌, List, [], ◌∷◌, map, take, replicate, pos, ◌<ℤ◌, ℤ, IsTrue, IsFalse, slice_set, ⊤}
+use Rattle.std.specs.Prelude.{◌≡◌, ◌⊎◌, ℕ, List, [], ◌∷◌, map, take, replicate, pos, ◌<ℤ◌, ℤ, IsTrue, IsFalse, slice_set, ⊤}
 use Rattle.poly_specs.specs.Lists.{number_at, In}
 use Rattle.poly_specs.specs.Rows.{Point, Row, with_coef}
 
