@@ -13,3 +13,4 @@ pub mod MixLemmas
 pub mod MixRuns
 pub mod PickedLemmas
 pub mod FirstRunLemmas
+pub mod LeastHistories
