@@ -42,7 +42,7 @@ point-from_coordinates p q l f = go p.num q.num l f
         let t = go ps qs (omega arith) (λ j lt. f (suc j) (omega arith)) in cc
 
 -- points that agree outside x have equal coordinates there
-same_other : (x : ℕ) (p q : Point) → SameBut x p q → (j : ℕ) → j ≢ x → SameFraction (coordinate j p) (coordinate j q)
+pub same_other : (x : ℕ) (p q : Point) → SameBut x p q → (j : ℕ) → j ≢ x → SameFraction (coordinate j p) (coordinate j q)
 same_other x p q e j n =
     let c = coordinates (over p.den (set p.num x (pos 0))) (over q.den (set q.num x (pos 0))) e j in
     let a : number_at j (set p.num x (pos 0)) ≡ number_at j p.num = get_or-set_other p.num x j (pos 0) (pos 0) n in
@@ -51,7 +51,7 @@ same_other x p q e j n =
 
 -- ---- widths
 
-eliminated_wide : (w x : ℕ) (rows : List Row) → AllWide w rows → AllWide w (eliminated x rows)
+pub eliminated_wide : (w x : ℕ) (rows : List Row) → AllWide w rows → AllWide w (eliminated x rows)
 unfolding eliminated
 eliminated_wide w x rows wide = wide_from (eliminated x rows) (λ r i. elim (in_either r (free_of x rows) _ i) [
   | inl j ↦ width_in w rows wide r (out_filter (λ r. unsigned_abs (coef_at x r) == 0) r rows j).0
@@ -91,7 +91,7 @@ each_complete w (x ∷ columns) rows p within wide lp hp all =
       },
     )
 
-abs_is : (d : ℤ) → pos 0 <ℤ d → pos (unsigned_abs d) ≡ d
+pub abs_is : (d : ℤ) → pos 0 <ℤ d → pos (unsigned_abs d) ≡ d
 abs_is (pos d) h = refl
 abs_is (negsuc d) h = absurd (omega (arith, ints))
 

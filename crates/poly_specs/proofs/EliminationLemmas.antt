@@ -263,7 +263,7 @@ middle_upper s a b k v u z c w ec hb le h e =
     e ∙ rw ec (simp expand (omega (arith, products))) in
     subst (Allows s) (sym f) (Allows-more s a b (pos b *ℤ z -ℤ pos k *ℤ u) (pos k *ℤ v +ℤ pos a *ℤ z) hb (omega (arith, ints)) h)
 
-den-with_number : (k : ℕ) (p : Point) (x : ℕ) (n : ℤ) → 0 < k → pos 0 <ℤ p.den → pos 0 <ℤ (with_number k p x n).den
+pub den-with_number : (k : ℕ) (p : Point) (x : ℕ) (n : ℤ) → 0 < k → pos 0 <ℤ p.den → pos 0 <ℤ (with_number k p x n).den
 unfolding with_number
 den-with_number k p x n hk hp = product_positive (pos k) p.den (omega (arith, ints)) hp
 

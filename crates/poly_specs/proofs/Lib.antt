@@ -13,3 +13,7 @@ pub mod GcdLemmas
 pub mod LowestLemmas
 pub mod PrimitiveLemmas
 pub mod RowLemmas
+pub mod SetLemmas
+pub mod LineLemmas
+pub mod OpenLemmas
+pub mod PickingLemmas

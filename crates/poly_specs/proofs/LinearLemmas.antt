@@ -75,11 +75,11 @@ pub Allows-right : (s t : Bool) (v : ℤ) → Allows (s || t) v → Allows t v
 Allows-right true t v h = Allows-below t v h
 Allows-right false t v h = h
 
-scaled_by : (s : Bool) (k v : ℤ) → pos 0 <ℤ k → Allows s v → Allows s (k *ℤ v)
+pub scaled_by : (s : Bool) (k v : ℤ) → pos 0 <ℤ k → Allows s v → Allows s (k *ℤ v)
 scaled_by s (pos k) v p h = Allows-scaled s k v (omega (arith, ints)) h
 scaled_by s (negsuc k) v p h = absurd (omega (arith, ints))
 
-cancelled_by : (s : Bool) (k v : ℤ) → pos 0 <ℤ k → Allows s (k *ℤ v) → Allows s v
+pub cancelled_by : (s : Bool) (k v : ℤ) → pos 0 <ℤ k → Allows s (k *ℤ v) → Allows s v
 cancelled_by s (pos k) v p h = Allows-cancel s k v (omega (arith, ints)) h
 cancelled_by s (negsuc k) v p h = absurd (omega (arith, ints))
 

@@ -1,7 +1,7 @@
 -- Picking the numbers of a point from the levels of a system, and when this passes 128 bits.
-use Rattle.std.specs.Prelude.{◌≡◌, ◌⊎◌, ℕ, ◌+◌, ◌-◌, ◌<◌, ◌≤◌, List, [], ◌∷◌, ◌++◌, length, take, ℤ, pos, ◌*ℤ◌, slice_index_or}
+use Rattle.std.specs.Prelude.{◌≡◌, ◌⊎◌, ℕ, ◌+◌, ◌-◌, ◌<◌, ◌≤◌, List, [], ◌∷◌, ◌++◌, All, length, take, ℤ, pos, ◌*ℤ◌, slice_index_or}
 use Rattle.poly_specs.specs.Lists.{In}
-use Rattle.poly_specs.specs.Fractions.{Fraction, SameFraction, zero_fraction}
+use Rattle.poly_specs.specs.Fractions.{Fraction, IsFraction, SameFraction, zero_fraction}
 use Rattle.poly_specs.specs.Rows.{Point, Row, coordinate}
 use Rattle.poly_specs.specs.Bits.{SomePasses}
 use Rattle.poly_specs.specs.Elimination.{eliminated_each, columns_down}
@@ -34,6 +34,15 @@ IsOpen p x v = (q : Point) × CanTake p x v q
 -- each number from the first column on is the pick of the values that the system leaves for its column
 abbrev pub ArePicked : Picking → Type 0
 ArePicked p = (x : ℕ) → p.first ≤ x → x < length p.numbers → IsPick (IsOpen p x) (picked_at p x)
+
+-- numbers for all n columns that begin with the given ones, each further one picked, and the point of the system that has them
+pub record ArePickedNumbers (n : ℕ) (rows : List Row) (given numbers : List Fraction) (p : Point) : Type 0 where
+  pub sized : length numbers ≡ n
+  pub begins : take (length given) numbers ≡ given
+  pub fractions : All IsFraction numbers
+  pub picked : ArePicked (record { rows = rows; first = length given; numbers = numbers })
+  pub point : IsPoint n rows p
+  pub agrees : (j : ℕ) → j < n → SameFraction (coordinate j p) (slice_index_or numbers j zero_fraction)
 
 -- ---- when it passes
 

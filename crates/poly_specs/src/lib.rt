@@ -11,6 +11,7 @@ ghost use Rattle.poly_specs.specs.Arithmetic.{lowest};
 ghost use Rattle.poly_specs.specs.Sets.{IsInterval};
 ghost use Rattle.poly_specs.specs.Picks.{IsPick};
 
+pub mod pickings;
 pub mod picks;
 pub mod projections;
 pub mod rows;
