@@ -10,6 +10,7 @@ pub mod Picks
 pub mod Bounds
 pub mod Denominators
 pub mod Evaluation
+pub mod Systems
 pub mod Pickings
 pub mod LowestTerms
 pub mod Arithmetic
