@@ -1,0 +1,107 @@
+//! Arithmetic on 128-bit integers, where a result that passes 128 bits is no result.
+
+ghost use Rattle.std.specs.Prelude.{◌≡◌, ◌↔◌, ◌<◌, ◌^◌, false, max, All, map, pos, ◌<ℤ◌, ◌*ℤ◌, ◌+ℤ◌, ◌≤◌, length, int_div, SomeIff, IsTrue};
+ghost use Rattle.poly_specs.specs.Bits.{FitsBits};
+ghost use Rattle.poly_specs.specs.Elimination.{gcd, divisor};
+
+use smallvec::SmallVec;
+use std::alloc::Global;
+
+/// Whether the number is not the least value of the type.
+fn is_kept(number: i128) -> bool
+    ensures { IsTrue result ↔ FitsBits number }
+{
+    number != i128::MIN
+}
+
+/// Whether no number is the least value of the type.
+pub fn all_kept(numbers: &[i128]) -> bool
+    ensures { IsTrue result ↔ All FitsBits numbers.now }
+{
+    numbers.iter().all(|number| is_kept(*number))
+}
+
+/// The product, where it does not pass 128 bits.
+pub fn kept_product(a: i128, b: i128) -> Option<i128>
+    ensures { SomeIff result (FitsBits (a *ℤ b)) (a *ℤ b) }
+{
+    let product = a.checked_mul(b)?;
+    if product == i128::MIN {
+        return None;
+    }
+    Some(product)
+}
+
+/// The sum, where it does not pass 128 bits.
+pub fn kept_sum(a: i128, b: i128) -> Option<i128>
+    ensures { SomeIff result (FitsBits (a +ℤ b)) (a +ℤ b) }
+{
+    let sum = a.checked_add(b)?;
+    if sum == i128::MIN {
+        return None;
+    }
+    Some(sum)
+}
+
+/// The greatest common divisor, by Euclid's algorithm.
+pub fn greatest_divisor(a: u128, b: u128) -> u128
+    ensures { result ≡ gcd a b }
+{
+    let mut x = a;
+    let mut y = b;
+    while y != 0 {
+        let rest = x % y;
+        x = y;
+        y = rest;
+    }
+    x
+}
+
+/// A number divided by one that divides it.
+pub fn quotient(number: i128, factor: i128) -> i128
+    requires positive { pos 0 <ℤ factor }
+    ensures { result ≡ int_div number factor }
+{
+    number / factor
+}
+
+/// The numbers, each divided by the factor.
+pub fn quotients(alloc: Global, numbers: &[i128], factor: i128) -> SmallVec<i128, 14>
+    requires few { length numbers.now ≤ 14 }
+    requires positive { pos 0 <ℤ factor }
+    ensures items { result.items ≡ map (λ c. int_div c factor) numbers.now }
+    ensures inline { result.capacity ≡ 14 }
+{
+    let mut divided = SmallVec::new(alloc);
+    for number in numbers {
+        divided.push_reserved(quotient(*number, factor));
+    }
+    divided
+}
+
+/// The greatest common divisor of a row's numbers, or 0 where all are 0.
+fn common_divisor(coef: &[i128], cst: i128) -> u128
+    requires coef_fits { All FitsBits coef.now }
+    requires cst_fits { FitsBits cst }
+    ensures value { max 1 result ≡ divisor (record { coef = coef.now; cst = cst; strict = false }) }
+    ensures bound { result < 2 ^ 127 }
+{
+    let mut shared = 0;
+    for c in coef {
+        if shared == 1 {
+            return 1;
+        }
+        shared = greatest_divisor(shared, c.unsigned_abs());
+    }
+    greatest_divisor(shared, cst.unsigned_abs())
+}
+
+/// The greatest common divisor of a row's numbers, or 1 where all are 0.
+pub fn row_divisor(coef: &[i128], cst: i128) -> i128
+    requires coef_fits { All FitsBits coef.now }
+    requires cst_fits { FitsBits cst }
+    ensures value { result ≡ pos (divisor (record { coef = coef.now; cst = cst; strict = false })) }
+    ensures positive { pos 0 <ℤ result }
+{
+    common_divisor(coef, cst).max(1) as i128
+}

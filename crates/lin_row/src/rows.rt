@@ -1,0 +1,73 @@
+//! Rows: how they are made and read.
+
+ghost use Rattle.std.specs.Prelude.{◌≡◌, ◌≤◌, All, length, false};
+ghost use Rattle.poly_specs.specs.Bits.{FitsBits};
+ghost use Rattle.poly_specs.specs.Elimination.{divided};
+ghost use Rattle.poly_specs.specs.KeptRows.{IsKeptRow};
+
+use crate::Row;
+use crate::numbers::{quotient, quotients, row_divisor};
+use smallvec::SmallVec;
+use std::alloc::Global;
+
+impl Row {
+    /// The row that is not strict, its numbers divided by their greatest common divisor.
+    pub fn make(alloc: Global, coef: &[i128], cst: i128) -> Row
+        requires few { length coef.now ≤ 14 }
+        requires coef_fits { All FitsBits coef.now }
+        requires cst_fits { FitsBits cst }
+        ensures { result ≡ divided (record { coef = coef.now; cst = cst; strict = false }) }
+    {
+        Row::make_as(alloc, coef, cst, false)
+    }
+
+    /// The row with this mark, its numbers divided by their greatest common divisor.
+    pub fn make_as(alloc: Global, coef: &[i128], cst: i128, strict: bool) -> Row
+        requires few { length coef.now ≤ 14 }
+        requires coef_fits { All FitsBits coef.now }
+        requires cst_fits { FitsBits cst }
+        ensures { result ≡ divided (record { coef = coef.now; cst = cst; strict = strict }) }
+    {
+        let factor = row_divisor(coef, cst);
+        Row {
+            coef: quotients(alloc, coef, factor),
+            cst: quotient(cst, factor),
+            strict,
+        }
+    }
+
+    /// The coefficient of each column.
+    pub fn coef(&self) -> &[i128]
+        ensures value { result.now ≡ self.now.coef }
+        ensures kept { IsKeptRow self.now }
+    {
+        self.coef.as_slice()
+    }
+
+    /// The constant.
+    pub fn cst(&self) -> i128
+        ensures value { result ≡ self.now.cst }
+        ensures kept { IsKeptRow self.now }
+    {
+        self.cst
+    }
+
+    /// Whether the row is strict: its sum is to be below 0.
+    pub fn strict(&self) -> bool
+        ensures value { result ≡ self.now.strict }
+        ensures kept { IsKeptRow self.now }
+    {
+        self.strict
+    }
+
+    /// The same row.
+    pub fn copy(&self) -> Row
+        ensures { result ≡ self.now }
+    {
+        Row {
+            coef: SmallVec::from_slice(*self.coef.allocator(), self.coef.as_slice()).unwrap(),
+            cst: self.cst,
+            strict: self.strict,
+        }
+    }
+}
