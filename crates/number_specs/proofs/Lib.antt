@@ -1,2 +1,5 @@
 pub mod LogNumberLemmas
+pub mod NumeralLemmas
+pub mod LiteralLemmas
+pub mod TextLemmas
 pub mod ExampleTexts

@@ -16,7 +16,7 @@ use Rattle.number_specs.specs.LogNumbers.{Digits, no_digits, mantissa_from, Expo
 
 -- ---- what is written has a positive bottom
 
-power-positive : (n : ℕ) → 0 < 10 ^ n
+pub power-positive : (n : ℕ) → 0 < 10 ^ n
 power-positive zero = omega arith
 power-positive (suc n) = let h = power-positive n in omega (arith, h)
 

@@ -3,7 +3,7 @@
 
 ghost use Rattle.std.specs.Prelude.{◌≡◌, ℕ, List, ℤ, ◌<◌, ◌^◌, pos, unsigned_abs, Ok};
 ghost use Rattle.poly_specs.specs.Fractions.{Fraction};
-ghost use Rattle.poly_specs.specs.LowestTerms.{IsLowest};
+ghost use Rattle.poly_specs.specs.Arithmetic.{IsKept};
 ghost use Rattle.number_specs.specs.LogNumbers.{read_number, IsLogNumber};
 ghost use Rattle.number_specs.specs.Literals.{read_literal, IsLiteralNumber};
 ghost use Rattle.number_specs.specs.FractionTexts.{fraction_text};
@@ -39,7 +39,7 @@ pub fn literals_are_read_back()
     ensures { (x : Fraction) → IsLiteralNumber x → read_literal (fraction_text x) ≡ Ok x }
 {}
 
-/// The texts of two fractions in lowest terms are equal only where the fractions are.
-pub fn texts_tell_fractions_apart()
-    ensures { (x y : Fraction) → IsLowest x → IsLowest y → fraction_text x ≡ fraction_text y → x ≡ y }
+/// The texts of two fractions in lowest terms, of numbers that do not pass 128 bits, are equal only where the fractions are.
+pub fn texts_tell_kept_fractions_apart()
+    ensures { (x y : Fraction) → IsKept x → IsKept y → fraction_text x ≡ fraction_text y → x ≡ y }
 {}
