@@ -1,6 +1,7 @@
 //! The names of the model language.
 ghost use Rattle.std.specs.Prelude.{◌≡◌, ◌||◌, ◌==◌, nat_le, bytes_eq};
 ghost use Rattle.std.specs.List.{list_any, list_all};
+ghost use Rattle.number_specs.specs.Digits as digits;
 ghost use Rattle.run_specs.specs.Names as names;
 
 /// Whether a byte is a letter.
@@ -12,7 +13,7 @@ fn is_letter(b: u8) -> bool
 
 /// Whether a byte is a digit.
 pub(crate) fn is_digit(b: u8) -> bool
-    ensures { result ≡ names.is_digit b }
+    ensures { result ≡ digits.is_digit b }
 {
     b.is_ascii_digit()
 }
