@@ -38,7 +38,7 @@ wide_first w r rows h g = wide_from w (r ∷ rows) (λ s i. elim i [
   | inr j ↦ width_in w rows g s j
 ])
 
-wide_moved : (w v : ℕ) (move : Row → Row) (rows : List Row) → AllWide w rows → ((r : Row) → length r.coef ≡ w → length (move r).coef ≡ v) → AllWide v (map move rows)
+pub wide_moved : (w v : ℕ) (move : Row → Row) (rows : List Row) → AllWide w rows → ((r : Row) → length r.coef ≡ w → length (move r).coef ≡ v) → AllWide v (map move rows)
 wide_moved w v move rows h f = wide_from v (map move rows) (λ s i.
     let y = out_map move s rows i in ap (λ z. length z.coef) y.2 ∙ f y.0 (width_in w rows h y.0 y.1))
 
@@ -52,7 +52,7 @@ length-leg_slope m r e =
     let a = length-append (take m r.coef) (pos 0 ∷ number_at m r.coef ∷ map neg_ℤ (take m r.coef)) in
     omega (arith, a, length-take m r.coef, length-map (take m r.coef) neg_ℤ)
 
-leg_wide : (a : Automaton) (l : ℕ) (state : List Row) → IsLocation (width a) (location_at a l) → AllWide (width a + 1) state →
+pub leg_wide : (a : Automaton) (l : ℕ) (state : List Row) → IsLocation (width a) (location_at a l) → AllWide (width a + 1) state →
     AllWide (width a + 1 + (width a + 1)) (leg_rows a l state)
 leg_wide a l state is wide =
     let m : ℕ = width a in
@@ -193,7 +193,7 @@ length-jump_related : (m : ℕ) (r : Row) → length r.coef ≡ m + m → length
 length-jump_related m r e =
     let a = length-append (drop m r.coef) (pos 0 ∷ take m r.coef) in omega (arith, a, length-drop m r.coef, length-take m r.coef)
 
-jump_wide : (a : Automaton) (e : ℕ) (state : List Row) →
+pub jump_wide : (a : Automaton) (e : ℕ) (state : List Row) →
     AllWide (width a + width a) (transition_at a e).relation → AllWide (width a) (location_at a (transition_at a e).target).invariant →
     AllWide (width a + 1) state → AllWide (width a + 1 + width a) (jump_rows a e state)
 jump_wide a e state wr wi wide =

@@ -33,7 +33,7 @@ use Rattle.run_specs.specs.Openings.{AreOpening, IsOpening, IsOpeningState, open
 use Rattle.run_specs.specs.SessionHistories.{Entry, IsEntry, AreLinked, states, some_marked, verdict_of, verdict_after, verdict_at, opening_states}
 use Rattle.run_specs.specs.Sessions.{MonitorSession, IsMonitorSession, AreEntriesOf}
 
-all_same : (rows : List Row) (p q : Point) → pos 0 <ℤ p.den → pos 0 <ℤ q.den → SamePoint p q → AllHold rows p → AllHold rows q
+pub all_same : (rows : List Row) (p q : Point) → pos 0 <ℤ p.den → pos 0 <ℤ q.den → SamePoint p q → AllHold rows p → AllHold rows q
 all_same rows p q hp hq e h = All-weaker (λ r. Holds r p) (λ r. Holds r q) (λ r. Holds-same_point r p q hp hq e) rows h
 
 -- ---- the end of a run
@@ -179,7 +179,7 @@ other_duration : (a : Automaton) (x y : Fraction) (g : GapRun) → IsFraction x 
 other_duration a x y g hx hy e is =
     record { positive = is.positive; leads = is.leads; lasts = same-trans (record { num = _; den = g.den }) x y is.positive hx hy is.lasts e }
 
-in_at : (belief : List State) (i : ℕ) → i < length belief → In (slice_index_or belief i no_state) belief
+pub in_at : (belief : List State) (i : ℕ) → i < length belief → In (slice_index_or belief i no_state) belief
 in_at [] i h = absurd (omega arith)
 in_at (x ∷ belief) zero h = inl refl
 in_at (x ∷ belief) (suc i) h = inr (in_at belief i (omega arith))
@@ -192,7 +192,7 @@ place_of (y ∷ belief) x (inr h) = let (i, l, e) = place_of belief x h in (suc 
 length_path : (g : GapRun) (path : List ℕ) → path_of g ≡ path → length g.moves ≡ length path
 length_path g path e = sym (length-map g.moves (λ m. m.transition)) ∙ ap length e
 
-in_states : (items : List Item) (x : State) → In x (states items) → (y : Item) × In y items × (x ≡ y.state)
+pub in_states : (items : List Item) (x : State) → In x (states items) → (y : Item) × In y items × (x ≡ y.state)
 in_states [] x h = absurd h
 in_states (y ∷ items) x (inl e) = (y, inl refl, e)
 in_states (y ∷ items) x (inr h) = let (z, i, e) = in_states items x h in (z, inr i, e)

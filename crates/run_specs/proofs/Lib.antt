@@ -14,3 +14,7 @@ pub mod MixRuns
 pub mod PickedLemmas
 pub mod FirstRunLemmas
 pub mod LeastHistories
+pub mod ScaledRows
+pub mod StageWidths
+pub mod GapEnds
+pub mod GapPasses

@@ -77,26 +77,30 @@ LogPasses-opening a k ss (l, h) = (
 
 -- ---- fewer rows before a gap are fewer rows after it
 
-same_in : {A : Type 0} (xs : List A) → IsAmong xs xs
+pub same_in : {A : Type 0} (xs : List A) → IsAmong xs xs
 same_in xs x i = i
 
-after_more : (columns : List ℕ) (again : List Row) (left : ℕ) (sums : List ℤ) (rows more : List Row) → IsAmong rows more →
+pub after_more : (columns : List ℕ) (again : List Row) (left : ℕ) (sums : List ℤ) (rows more : List Row) → IsAmong rows more →
     IsAmong (rows_after (record { rows = rows; columns = columns; again = again; left = left; sums = sums }))
     (rows_after (record { rows = more; columns = columns; again = again; left = left; sums = sums }))
 unfolding rows_after
 after_more columns again left sums rows more h =
     among_map (cut left) _ _ (among_append _ _ _ _ (among_eliminated_each columns rows more h) (same_in again))
 
-leg_more : (a : Automaton) (l : ℕ) (rows more : List Row) → IsAmong rows more → IsAmong (rows_after (leg_stage a l rows)) (rows_after (leg_stage a l more))
-leg_more a l rows more h =
-    after_more _ _ _ _ (leg_rows a l rows) (leg_rows a l more)
-    (among_append _ _ _ _ (among_append _ _ _ _ (among_append _ _ _ _ (among_map (leg_before (width a)) rows more h) (same_in _)) (same_in _))
-    (same_in (row_of (2 * width a + 2) (width a + 1) (negsuc 0) (pos 0) ∷ map (leg_slope (width a)) (location_at a l).slopes)))
+pub leg_rows_more : (a : Automaton) (l : ℕ) (rows more : List Row) → IsAmong rows more → IsAmong (leg_rows a l rows) (leg_rows a l more)
+leg_rows_more a l rows more h =
+    among_append _ _ _ _ (among_append _ _ _ _ (among_append _ _ _ _ (among_map (leg_before (width a)) rows more h) (same_in _)) (same_in _))
+    (same_in (row_of (2 * width a + 2) (width a + 1) (negsuc 0) (pos 0) ∷ map (leg_slope (width a)) (location_at a l).slopes))
 
-jump_more : (a : Automaton) (e : ℕ) (rows more : List Row) → IsAmong rows more → IsAmong (rows_after (jump_stage a e rows)) (rows_after (jump_stage a e more))
-jump_more a e rows more h =
-    after_more _ _ _ _ (jump_rows a e rows) (jump_rows a e more)
-    (among_append _ _ _ _ (among_append _ _ _ _ (among_map (jump_before (width a)) rows more h) (same_in _)) (same_in _))
+pub leg_more : (a : Automaton) (l : ℕ) (rows more : List Row) → IsAmong rows more → IsAmong (rows_after (leg_stage a l rows)) (rows_after (leg_stage a l more))
+leg_more a l rows more h = after_more _ _ _ _ (leg_rows a l rows) (leg_rows a l more) (leg_rows_more a l rows more h)
+
+pub jump_rows_more : (a : Automaton) (e : ℕ) (rows more : List Row) → IsAmong rows more → IsAmong (jump_rows a e rows) (jump_rows a e more)
+jump_rows_more a e rows more h =
+    among_append _ _ _ _ (among_append _ _ _ _ (among_map (jump_before (width a)) rows more h) (same_in _)) (same_in _)
+
+pub jump_more : (a : Automaton) (e : ℕ) (rows more : List Row) → IsAmong rows more → IsAmong (rows_after (jump_stage a e rows)) (rows_after (jump_stage a e more))
+jump_more a e rows more h = after_more _ _ _ _ (jump_rows a e rows) (jump_rows a e more) (jump_rows_more a e rows more h)
 
 path_more : (a : Automaton) (l : ℕ) (path : List ℕ) (rows more : List Row) → IsAmong rows more → IsAmong (path_rows a l path rows) (path_rows a l path more)
 path_more a l [] rows more h = leg_more a l rows more h
@@ -104,10 +108,18 @@ path_more a l (e ∷ path) rows more h =
     path_more a (transition_at a e).target path (rows_after (jump_stage a e (rows_after (leg_stage a l rows)))) (rows_after (jump_stage a e (rows_after (leg_stage a l more))))
     (jump_more a e (rows_after (leg_stage a l rows)) (rows_after (leg_stage a l more)) (leg_more a l rows more h))
 
+pub start_more : (m : ℕ) (rows more : List Row) → IsAmong rows more → IsAmong (gap_start m rows) (gap_start m more)
+start_more m rows more h =
+    among_append _ _ _ _ (among_map _ rows more h) (same_in (row_of (m + 1) m (pos 1) (pos 0) ∷ row_of (m + 1) m (negsuc 0) (pos 0) ∷ []))
+
+pub sample_rows_more : (a : Automaton) (duration : Fraction) (cells : List (Option Fraction)) (rows more : List Row) →
+    IsAmong rows more → IsAmong (sample_rows a duration cells rows) (sample_rows a duration cells more)
+sample_rows_more a duration cells rows more h =
+    among_append _ _ _ _ h (same_in (at_most (width a + 1) (width a) duration ∷ at_least (width a + 1) (width a) duration ∷ flat_map (seen_rows a cells) (below (width a))))
+
 pub gap_more : (a : Automaton) (l : ℕ) (path : List ℕ) (duration : Fraction) (cells : List (Option Fraction)) (rows more : List Row) →
     IsAmong rows more → IsAmong (gap_rows a l path duration cells rows) (gap_rows a l path duration cells more)
 gap_more a l path duration cells rows more h =
     after_more _ _ _ _ (sample_rows a duration cells (path_rows a l path (gap_start (width a) rows))) (sample_rows a duration cells (path_rows a l path (gap_start (width a) more)))
-    (among_append _ _ _ _
-    (path_more a l path (gap_start (width a) rows) (gap_start (width a) more) (among_append _ _ _ _ (among_map _ rows more h) (same_in (row_of (width a + 1) (width a) (pos 1) (pos 0) ∷ row_of (width a + 1) (width a) (negsuc 0) (pos 0) ∷ []))))
-    (same_in (at_most (width a + 1) (width a) duration ∷ at_least (width a + 1) (width a) duration ∷ flat_map (seen_rows a cells) (below (width a)))))
+    (sample_rows_more a duration cells (path_rows a l path (gap_start (width a) rows)) (path_rows a l path (gap_start (width a) more))
+    (path_more a l path (gap_start (width a) rows) (gap_start (width a) more) (start_more (width a) rows more h)))

@@ -71,7 +71,7 @@ near_row m j w (Some v) r h (inl e) = subst (IsNearRow m) (sym e) (column_row m 
 near_row m j w (Some v) r h (inr (inl e)) = subst (IsNearRow m) (sym e) (column_row m j _ _ h)
 near_row m j w (Some v) r h (inr (inr i)) = absurd i
 
-sample_wide : (a : Automaton) (duration : Fraction) (cells : List (Option Fraction)) (state : List Row) → AllWide (width a + 1) state →
+pub sample_wide : (a : Automaton) (duration : Fraction) (cells : List (Option Fraction)) (state : List Row) → AllWide (width a + 1) state →
     AllWide (width a + 1) (sample_rows a duration cells state)
 sample_wide a duration cells state wide =
     let m : ℕ = width a in
@@ -109,11 +109,11 @@ gone_within a cells = All-cons (λ x. x < width a + 1) (width a) (filter (seen_e
 
 -- ---- the last number
 
-record IsSplit (m : ℕ) (ns v : List ℤ) (e : ℤ) : Type 0 where
-  is : ns ≡ v ++ e ∷ []
-  sized : length v ≡ m
+pub record IsSplit (m : ℕ) (ns v : List ℤ) (e : ℤ) : Type 0 where
+  pub is : ns ≡ v ++ e ∷ []
+  pub sized : length v ≡ m
 
-split_last : (m : ℕ) (ns : List ℤ) → length ns ≡ m + 1 → (v : List ℤ) × (e : ℤ) × IsSplit m ns v e
+pub split_last : (m : ℕ) (ns : List ℤ) → length ns ≡ m + 1 → (v : List ℤ) × (e : ℤ) × IsSplit m ns v e
 split_last zero [] l = absurd (omega arith)
 split_last zero (e ∷ []) l = ([], e, record { is = refl; sized = refl })
 split_last zero (e ∷ n ∷ ns) l = absurd (omega arith)
