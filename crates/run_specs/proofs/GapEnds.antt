@@ -69,6 +69,14 @@ start_holds m d v e rows lv wide =
 
 -- ---- along a path
 
+-- what a gap's stages need of its start and its sample
+pub record IsGapCase (a : Automaton) (l : ℕ) (cells : List (Option Fraction)) (rows : List Row) : Type 0 where
+  pub loc : l < length a.locations
+  pub wide : AllWide (width a) rows
+  pub tolerances : (j : ℕ) → IsFraction (tolerance_at a j)
+  pub values : (j : ℕ) (x : Fraction) → cell_at j cells ≡ Some x → IsFraction x
+  pub sized : length cells ≡ width a
+
 module _ (a : Automaton) (wf : IsWellFormed a) where
   leg_there : (l : ℕ) (state : List Row) (d : ℤ) (p : List ℤ) (t : ℤ) (q : List ℤ) (elapsed : ℤ) → l < length a.locations → AllWide (width a + 1) state → pos 0 <ℤ d →
       length p ≡ width a → IsLeg (location_at a l) d p t q → AllHold state (over d (p ++ elapsed ∷ [])) → AllHold (rows_after (leg_stage a l state)) (over d (q ++ (elapsed +ℤ t) ∷ []))
@@ -118,15 +126,7 @@ module _ (a : Automaton) (wf : IsWellFormed a) where
 
   -- ---- a whole gap
 
-  -- what a gap's stages need of its start and its sample
-  pub record IsGapCase (l : ℕ) (cells : List (Option Fraction)) (rows : List Row) : Type 0 where
-    pub loc : l < length a.locations
-    pub wide : AllWide (width a) rows
-    pub tolerances : (j : ℕ) → IsFraction (tolerance_at a j)
-    pub values : (j : ℕ) (x : Fraction) → cell_at j cells ≡ Some x → IsFraction x
-    pub sized : length cells ≡ width a
-
-  pub gap_there : (duration : Fraction) (cells : List (Option Fraction)) (rows : List Row) (g : GapRun) → IsGapCase g.start_loc cells rows → Fits a g.start_loc (path_of g) →
+  pub gap_there : (duration : Fraction) (cells : List (Option Fraction)) (rows : List Row) (g : GapRun) → IsGapCase a g.start_loc cells rows → Fits a g.start_loc (path_of g) →
       length g.start ≡ width a → IsGapRun a duration g → IsPassing a cells (end_point g) → AllHold rows (start_point g) →
       AllReached (gap_stages a g.start_loc (path_of g) duration cells rows) × AllHold (gap_rows a g.start_loc (path_of g) duration cells rows) (end_point g)
   gap_there duration cells rows g is fits lp run passes h =

@@ -57,6 +57,13 @@ start_within m rows more wr wm within p hp lp h =
     subst (λ z. AllHold (gap_start m more) (over p.den z)) (sym s.is)
     ((start_holds m p.den v e more s.sized wm).1 (within (over p.den v) hp s.sized there.0, there.1))
 
+-- two states' rows: the first some of the second, and holding at the same points
+pub record IsLess (n : ℕ) (rows more : List Row) : Type 0 where
+  pub among : IsAmong rows more
+  pub within : IsWithin n rows more
+  pub wide : AllWide n rows
+  pub more_wide : AllWide n more
+
 module _ (a : Automaton) (wf : IsWellFormed a) where
   leg_within : (l : ℕ) (rows more : List Row) → l < length a.locations → AllWide (width a + 1) rows → AllWide (width a + 1) more → IsWithin (width a + 1) rows more →
       IsWithin (width a + 1) (rows_after (leg_stage a l rows)) (rows_after (leg_stage a l more))
@@ -84,13 +91,6 @@ module _ (a : Automaton) (wf : IsWellFormed a) where
           (d, q, elapsed, b, record { positive = s.positive; sized = s.sized; starts = starts; jump = s.jump; ends = s.ends })
 
   -- ---- stages
-
-  -- two states' rows: the first some of the second, and holding at the same points
-  pub record IsLess (n : ℕ) (rows more : List Row) : Type 0 where
-    pub among : IsAmong rows more
-    pub within : IsWithin n rows more
-    pub wide : AllWide n rows
-    pub more_wide : AllWide n more
 
   leg_less : (l : ℕ) (rows more : List Row) → l < length a.locations → IsLess (width a + 1) rows more →
       IsLess (width a + 1) (rows_after (leg_stage a l rows)) (rows_after (leg_stage a l more))

@@ -18,3 +18,4 @@ pub mod ScaledRows
 pub mod StageWidths
 pub mod GapEnds
 pub mod GapPasses
+pub mod LicenceLemmas

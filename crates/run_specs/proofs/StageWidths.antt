@@ -15,6 +15,7 @@ use Rattle.poly_specs.specs.Rows.{Row, AllWide, with_coef}
 use Rattle.poly_specs.specs.Elimination.{eliminated, eliminated_each}
 use Rattle.run_specs.specs.Automaton.{Automaton, nowhere, no_transition, width, location_at, transition_at}
 use Rattle.run_specs.specs.WellFormed.{IsLocation, IsTransition, IsWellFormed}
+use Rattle.run_specs.specs.Runs.{end_loc}
 use Rattle.run_specs.specs.Passes.{Fits}
 use Rattle.run_specs.specs.Stages.{Stage, zeros, cut, rows_after, row_of, gap_start, leg_stage, leg_rows, jump_stage, jump_rows, sample_stage, sample_rows, seen_rows, seen_exactly, at_most, at_least, below, path_rows, gap_rows}
 
@@ -78,6 +79,11 @@ module _ (a : Automaton) (wf : IsWellFormed a) where
   pub jump_wide_of : (e : ℕ) (state : List Row) → e < length a.transitions → AllWide (width a + 1) state → AllWide (width a + 1) (rows_after (jump_stage a e state))
   jump_wide_of e state h wide =
       let t = transition_is e h in jump_after_wide a e state t.relation (location_is (transition_at a e).target t.target).invariant wide
+
+  -- a path ends in one of its locations
+  pub end_within : (l : ℕ) (path : List ℕ) → l < length a.locations → Fits a l path → end_loc a l path < length a.locations
+  end_within l [] h fits = h
+  end_within l (e ∷ path) h fits = end_within (transition_at a e).target path (transition_is e fits.0).target fits.2
 
   pub path_wide : (l : ℕ) (path : List ℕ) (state : List Row) → l < length a.locations → Fits a l path → AllWide (width a + 1) state → AllWide (width a + 1) (path_rows a l path state)
   path_wide l [] state h fits wide = leg_after_wide a l state (location_is l h) wide
