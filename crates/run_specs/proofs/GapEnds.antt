@@ -1,5 +1,5 @@
 -- A gap run from where the rows of a state hold ends where the rows after its gap's stages hold, and each stage has a point.
-use Rattle.std.proofs.Common.{◌≡◌, ◌↔◌, inl, inr, ℕ, zero, suc, ◌+◌, ◌<◌, List, [], ◌∷◌, ◌++◌, length, length-append, take, map, Option, Some, refl, sym, ◌∙◌, ap, subst, arith, ℤ, pos, negsuc, ◌+ℤ◌, ◌-ℤ◌, ◌*ℤ◌, ◌<ℤ◌}
+use Rattle.std.proofs.Common.{◌≡◌, ◌↔◌, inr, ℕ, ◌+◌, ◌<◌, List, [], ◌∷◌, ◌++◌, length, length-append, take, map, Option, Some, refl, sym, ◌∙◌, ap, subst, arith, ℤ, pos, negsuc, ◌+ℤ◌, ◌-ℤ◌, ◌<ℤ◌}
 use Rattle.std.proofs.lemmas.Int.{ints}
 use Rattle.std.proofs.lemmas.List.{take_all}
 use Rattle.poly_specs.proofs.LinearLemmas.{dot-append}
@@ -9,8 +9,8 @@ use Rattle.run_specs.proofs.SampleLemmas.{number_last}
 use Rattle.run_specs.proofs.SampleEnds.{sample_ends}
 use Rattle.run_specs.proofs.StageWidths.{location_is, transition_is, leg_after_wide, jump_wide_of, path_wide, start_wide}
 use Rattle.poly_specs.specs.Lists.{dot, number_at}
-use Rattle.poly_specs.specs.Fractions.{Fraction, IsFraction, SameFraction}
-use Rattle.poly_specs.specs.Rows.{Point, Row, over, with_coef, row_value, Holds, AllHold, AllWide, HasPoint}
+use Rattle.poly_specs.specs.Fractions.{Fraction, IsFraction}
+use Rattle.poly_specs.specs.Rows.{Point, Row, over, with_coef, Holds, AllHold, AllWide, HasPoint}
 use Rattle.run_specs.specs.Automaton.{Automaton, width, location_at, transition_at, tolerance_at}
 use Rattle.run_specs.specs.WellFormed.{IsWellFormed}
 use Rattle.run_specs.specs.Logs.{IsPassing, cell_at}
@@ -137,13 +137,17 @@ module _ (a : Automaton) (wf : IsWellFormed a) where
       let state : List Row = path_rows a g.start_loc (path_of g) start in
       let time : pos 0 +ℤ total g.moves g.last ≡ total g.moves g.last = omega (arith, ints) in
       let ends : AllHold (gap_rows a g.start_loc (path_of g) duration cells rows) (end_point g) =
-      (sample_ends a duration cells state g.den g.last.at_end is.tolerances is.values is.sized (path_wide a wf g.start_loc (path_of g) start is.loc fits wide) run.positive along.1).1
-      (g.den, g.last.at_end, total g.moves g.last, record {
-        positive = run.positive;
-        sized = along.1;
-        starts = subst (λ z. AllHold state (over g.den (g.last.at_end ++ z ∷ []))) time along.2;
-        lasts = run.lasts;
-        passes = passes;
-        ends = refl;
-      }) in
+      (sample_ends a duration cells state g.den g.last.at_end is.tolerances is.values is.sized (path_wide a wf g.start_loc (path_of g) start is.loc fits wide) run.positive along.1).1 (
+        g.den,
+        g.last.at_end,
+        total g.moves g.last,
+        record {
+          positive = run.positive;
+          sized = along.1;
+          starts = subst (λ z. AllHold state (over g.den (g.last.at_end ++ z ∷ []))) time along.2;
+          lasts = run.lasts;
+          passes = passes;
+          ends = refl;
+        },
+      ) in
       (reached_both (path_stages a g.start_loc (path_of g) start) (sample_stage a duration cells state ∷ []) along.0 ((end_point g, run.positive, along.1, ends), tt), ends)

@@ -18,4 +18,5 @@ pub mod ScaledRows
 pub mod StageWidths
 pub mod GapEnds
 pub mod GapPasses
-pub mod LicenceLemmas
+pub mod OverflowLemmas
+pub mod ReplyLemmas

@@ -1,5 +1,5 @@
 -- A row and its positive multiples are alike once divided: a bound says the same in lowest terms.
-use Rattle.std.proofs.Common.{zero-mul, ◌≡◌, ℕ, zero, suc, ◌*◌, ◌<◌, List, [], ◌∷◌, ◌++◌, length, map, fold, set, get_or, refl, sym, ◌∙◌, ap, ap₂, subst, arith, max, Bool, false, ℤ, pos, negsuc, ◌*ℤ◌, ◌<ℤ◌, neg_ℤ, unsigned_abs}
+use Rattle.std.proofs.Common.{zero-mul, ◌≡◌, ℕ, zero, suc, ◌*◌, ◌<◌, List, [], ◌∷◌, ◌++◌, length, map, fold, set, refl, sym, ◌∙◌, ap, ap₂, subst, arith, max, false, ℤ, pos, negsuc, ◌*ℤ◌, ◌<ℤ◌, neg_ℤ, unsigned_abs}
 use Rattle.std.proofs.Math.Nat.{mul_comm}
 use Rattle.std.proofs.lemmas.Int.{ints, unsigned_abs-mul}
 use Rattle.std.proofs.lemmas.List.{length-set, get_or-set_same}

@@ -1,15 +1,14 @@
 -- The rows after a stage have the columns that are left.
-use Rattle.std.proofs.Common.{◌≡◌, inl, inr, ℕ, ◌+◌, ◌<◌, ◌≤◌, List, [], ◌∷◌, ◌++◌, length, length-append, length-take, take, map, Option, refl, ap, arith, ℤ, pos, negsuc}
+use Rattle.std.proofs.Common.{◌≡◌, inr, ℕ, ◌+◌, ◌<◌, ◌≤◌, List, [], ◌∷◌, ◌++◌, length, length-append, length-take, take, map, Option, arith, ℤ, pos, negsuc}
 use Rattle.std.specs.List.{flat_map}
 use Rattle.std.specs.Prelude.{filter}
 use Rattle.std.proofs.lemmas.List.{length-set}
-use Rattle.poly_specs.proofs.InclusionLemmas.{out_filter, in_flat_map, in_right}
+use Rattle.poly_specs.proofs.InclusionLemmas.{out_filter, in_flat_map}
 use Rattle.poly_specs.proofs.EliminationLemmas.{width_in, out_flat_map}
 use Rattle.poly_specs.proofs.ColumnLemmas.{eliminated_wide}
 use Rattle.run_specs.proofs.StageLemmas.{length-zeros}
 use Rattle.run_specs.proofs.EndLemmas.{wide_from, wide_both, wide_first, wide_moved, leg_wide, jump_wide}
 use Rattle.run_specs.proofs.SampleEnds.{sample_wide}
-use Rattle.poly_specs.specs.Lists.{In}
 use Rattle.poly_specs.specs.Fractions.{Fraction}
 use Rattle.poly_specs.specs.Rows.{Row, AllWide, with_coef}
 use Rattle.poly_specs.specs.Elimination.{eliminated, eliminated_each}
@@ -17,7 +16,7 @@ use Rattle.run_specs.specs.Automaton.{Automaton, nowhere, no_transition, width, 
 use Rattle.run_specs.specs.WellFormed.{IsLocation, IsTransition, IsWellFormed}
 use Rattle.run_specs.specs.Runs.{end_loc}
 use Rattle.run_specs.specs.Passes.{Fits}
-use Rattle.run_specs.specs.Stages.{Stage, zeros, cut, rows_after, row_of, gap_start, leg_stage, leg_rows, jump_stage, jump_rows, sample_stage, sample_rows, seen_rows, seen_exactly, at_most, at_least, below, path_rows, gap_rows}
+use Rattle.run_specs.specs.Stages.{zeros, cut, rows_after, row_of, gap_start, leg_stage, leg_rows, jump_stage, jump_rows, sample_stage, sample_rows, seen_rows, seen_exactly, below, path_rows, gap_rows}
 
 each_wide : (w : ℕ) (columns : List ℕ) (rows : List Row) → AllWide w rows → AllWide w (eliminated_each columns rows)
 each_wide w [] rows wide = wide

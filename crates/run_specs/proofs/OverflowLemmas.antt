@@ -1,38 +1,32 @@
--- Where a session's entry passes, so does its log: each state stands in a history of the log whose stages have points.
-use Rattle.std.proofs.Common.{◌≡◌, ◌⊎◌, inl, inr, ℕ, zero, suc, ◌+◌, ◌<◌, ◌≤◌, take_all, IfSome, List, [], ◌∷◌, ◌++◌, append_assoc, length, map, take, Option, Some, None, refl, sym, ◌∙◌, ap, ap₂, subst, arith, ℤ, pos, ◌<ℤ◌}
-use Rattle.std.specs.Prelude.{All, IsSomeAnd}
+-- Where an entry of a session passes, so does its log: each state stands in a history of the log whose stages have points.
+use Rattle.std.proofs.Common.{◌≡◌, inl, inr, ℕ, ◌+◌, ◌<◌, take_all, IfSome, List, [], ◌∷◌, ◌++◌, append_assoc, length, map, take, Option, Some, None, refl, sym, ◌∙◌, ap, ap₂, subst, arith, ℤ}
+use Rattle.std.specs.Prelude.{IsSomeAnd}
 use Rattle.std.specs.List.{flat_map}
-use Rattle.std.proofs.lemmas.Int.{ints}
 use Rattle.std.proofs.lemmas.Bool.{cases_lt}
 use Rattle.std.proofs.lemmas.List.{get_or_past}
 use Rattle.std.proofs.lemmas.List.Elements.{All-head, All-tail}
-use Rattle.poly_specs.proofs.IntLemmas.{product_positive}
-use Rattle.run_specs.proofs.PassesLemmas.{LogPasses-longer, LogPasses-opening, gap_more}
-use Rattle.run_specs.proofs.EndLemmas.{all_cut, wide_both}
-use Rattle.run_specs.proofs.LawfulLemmas.{all_same, in_at, in_states, session_lawful}
+use Rattle.run_specs.proofs.PassesLemmas.{gap_more}
+use Rattle.run_specs.proofs.EndLemmas.{wide_both}
+use Rattle.run_specs.proofs.LawfulLemmas.{all_same, in_at, in_states}
 use Rattle.run_specs.proofs.ScaledRows.{at_most-lowest, at_least-lowest}
 use Rattle.run_specs.proofs.StageWidths.{location_is, end_within, gap_wide}
 use Rattle.run_specs.proofs.GapEnds.{AllReached, IsGapCase, reached_then, gap_there}
-use Rattle.run_specs.proofs.GapPasses.{IsWithin, IsLess, gap_passes}
+use Rattle.run_specs.proofs.GapPasses.{IsWithin, IsReduced, gap_passes}
 use Rattle.poly_specs.specs.Lists.{In, IsAmong}
 use Rattle.poly_specs.specs.Fractions.{Fraction, IsFraction, difference, zero_fraction}
 use Rattle.poly_specs.specs.Arithmetic.{lowest}
 use Rattle.poly_specs.specs.LowestTerms.{IsLowest}
-use Rattle.poly_specs.specs.Rows.{Point, Row, over, AllHold, AllWide, HasPoint}
-use Rattle.run_specs.specs.declared.Verdict.{Verdict}
-use Rattle.run_specs.specs.declared.Verdict.TheVariants.{Alarm, Safe, Impossible, Overflow}
-use Rattle.run_specs.specs.Automaton.{Automaton, width, nowhere, location_at, tolerance_at}
+use Rattle.poly_specs.specs.Rows.{Point, Row, AllHold, AllWide, HasPoint}
+use Rattle.run_specs.specs.Automaton.{Automaton, width, nowhere, location_at}
 use Rattle.run_specs.specs.WellFormed.{IsWellFormed}
-use Rattle.run_specs.specs.Logs.{Sample, IsSample, cell_at}
-use Rattle.run_specs.specs.Runs.{GapRun, end_loc, path_of, end_point, start_point}
-use Rattle.run_specs.specs.Stages.{Stage, SomeReachedPasses, rows_after, cut, opening_stage, at_most, at_least, seen_rows, below, sample_stage, path_rows, path_stages, gap_start, gap_rows, gap_stages, gaps_stages}
+use Rattle.run_specs.specs.Logs.{Sample}
+use Rattle.run_specs.specs.Runs.{path_of, end_point, start_point}
+use Rattle.run_specs.specs.Stages.{Stage, SomeReachedPasses, rows_after, cut, opening_stage, seen_rows, below, sample_stage, path_rows, path_stages, gap_start, gap_rows, gap_stages, gaps_stages}
 use Rattle.run_specs.specs.Passes.{Fits, AllFit, LogPasses, history_stages}
-use Rattle.run_specs.specs.Verdicts.{IsLawful}
-use Rattle.run_specs.specs.Keys.{State, Key, IsState, IsKey, no_state, parent_at}
-use Rattle.run_specs.specs.Outcomes.{Item, Outcome, Next, Passed, IsItem, IsEnd, AreExact, KeyPasses, IsExact, loc_after}
-use Rattle.run_specs.specs.Openings.{AreOpening, IsOpening, IsOpeningState}
-use Rattle.run_specs.specs.SessionHistories.{Entry, AreLinked, states, some_marked, verdict_of, verdict_after, verdict_at, opening_states}
-use Rattle.run_specs.specs.Sessions.{MonitorSession, IsMonitorSession, AreEntriesOf}
+use Rattle.run_specs.specs.Keys.{State, Key, IsKey, no_state, parent_at}
+use Rattle.run_specs.specs.Outcomes.{Item, IsItem, IsEnd, AreExact, KeyPasses}
+use Rattle.run_specs.specs.Openings.{AreOpening, IsOpeningState}
+use Rattle.run_specs.specs.SessionHistories.{states}
 
 -- ---- a gap's length in lowest terms has the stages of the length
 
@@ -53,16 +47,16 @@ lowest_stages a l path v cells rows hv =
 -- ---- states in histories
 
 -- these plain rows are those of a history of the log up to time t that leads to the state; what passes in a gap later passes for the log
-record IsHistoryOf (a : Automaton) (k : ℕ) (before : List Sample) (t : Fraction) (x : State) (rows : List Row) : Type 0 where
-  loc : x.loc < length a.locations
-  among : IsAmong x.rows rows
-  within : IsWithin (width a) x.rows rows
-  wide : AllWide (width a) rows
-  goes_on : (later : List Sample) (paths : List (List ℕ)) → length paths ≡ length later → AllFit a k x.loc paths →
+pub record IsHistoryOf (a : Automaton) (k : ℕ) (before : List Sample) (t : Fraction) (x : State) (rows : List Row) : Type 0 where
+  pub loc : x.loc < length a.locations
+  pub among : IsAmong x.rows rows
+  pub within : IsWithin (width a) x.rows rows
+  pub wide : AllWide (width a) rows
+  pub goes_on : (later : List Sample) (paths : List (List ℕ)) → length paths ≡ length later → AllFit a k x.loc paths →
       SomeReachedPasses (gaps_stages a x.loc t later paths rows) → LogPasses a k (before ++ later)
 
 -- each state has such a history
-abbrev HaveHistories : Automaton → ℕ → List Sample → Fraction → List State → Type 0
+abbrev pub HaveHistories : Automaton → ℕ → List Sample → Fraction → List State → Type 0
 HaveHistories a k before t belief = (x : State) → In x belief → (rows : List Row) × IsHistoryOf a k before t x rows
 
 -- ---- the opening
@@ -85,7 +79,7 @@ starts_within a l init e = elim (cases_lt l (length a.locations)) [
   | inr ge ↦ absurd (let none = get_or_past a.locations l nowhere ge in let n : (location_at a l).init ≡ None = ap (λ x. x.init) none in let f : ⊥ = cc in f)
 ]
 
-opening_histories : (a : Automaton) (k : ℕ) (belief : List State) → IsWellFormed a → AreOpening a belief → HaveHistories a k [] zero_fraction belief
+pub opening_histories : (a : Automaton) (k : ℕ) (belief : List State) → IsWellFormed a → AreOpening a belief → HaveHistories a k [] zero_fraction belief
 opening_histories a k belief wf is x i = go (location_at a x.loc).init refl (is.each x i)
   where
     go : (o : Option (List Row)) → (location_at a x.loc).init ≡ o → IsSomeAnd (elim o as (λ _. Option (List Row)) [ None ↦ None | Some init ↦ Some (init ++ (location_at a x.loc).invariant) ]) (λ rows. IsOpeningState (width a) rows x) →
@@ -120,10 +114,10 @@ opening_histories a k belief wf is x i = go (location_at a x.loc).init refl (is.
 -- ---- a gap
 
 -- what a gap's key says of its sample and the time before
-record IsGapOf (t : Fraction) (s : Sample) (key : Key) : Type 0 where
-  gap : key.gap ≡ lowest (difference s.time t)
-  duration : IsFraction (difference s.time t)
-  seen : key.seen ≡ s.cells
+pub record IsGapOf (t : Fraction) (s : Sample) (key : Key) : Type 0 where
+  pub gap : key.gap ≡ lowest (difference s.time t)
+  pub duration : IsFraction (difference s.time t)
+  pub seen : key.seen ≡ s.cells
 
 key_case : (key : Key) (l : ℕ) (rows : List Row) → IsWellFormed key.automaton → IsKey key → l < length key.automaton.locations → AllWide (width key.automaton) rows →
     IsGapCase key.automaton l key.seen rows
@@ -190,7 +184,7 @@ item_history before t s key y rows wf is gap item old =
           subst (LogPasses a key.jumps) (sym (append_assoc before (s ∷ []) later)) (old.goes_on (s ∷ later) (y.path ∷ paths) (omega (arith, n)) fit_all stages);
     }
 
-items_histories : (before : List Sample) (t : Fraction) (s : Sample) (key : Key) (items : List Item) → IsWellFormed key.automaton → IsKey key → IsGapOf t s key → AreExact key items →
+pub items_histories : (before : List Sample) (t : Fraction) (s : Sample) (key : Key) (items : List Item) → IsWellFormed key.automaton → IsKey key → IsGapOf t s key → AreExact key items →
     HaveHistories key.automaton key.jumps before t key.belief → HaveHistories key.automaton key.jumps (before ++ s ∷ []) s.time (states items)
 items_histories before t s key items wf is gap exact old x i =
     let (y, iy, e) = in_states items x i in
@@ -198,7 +192,7 @@ items_histories before t s key items wf is gap exact old x i =
     let (rows, h) = old (parent_at key y.parent) (in_at key.belief y.parent item.may_take.parent) in (
       gap_rows key.automaton (parent_at key y.parent).loc y.path (difference s.time t) s.cells rows,
       subst (λ z. IsHistoryOf key.automaton key.jumps (before ++ s ∷ []) s.time z (gap_rows key.automaton (parent_at key y.parent).loc y.path (difference s.time t) s.cells rows)) (sym e)
-      (item_history before t s key y rows wf is gap item h),
+          (item_history before t s key y rows wf is gap item h),
     )
 
 -- ---- an entry that passed
@@ -208,14 +202,14 @@ reached_first [] ys h = absurd h
 reached_first (x ∷ xs) ys (inl p) = inl p
 reached_first (x ∷ xs) ys (inr h) = inr (h.0, reached_first xs ys h.1)
 
-key_passes : (before : List Sample) (t : Fraction) (s : Sample) (key : Key) → IsWellFormed key.automaton → IsKey key → IsGapOf t s key → KeyPasses key →
+pub key_passes : (before : List Sample) (t : Fraction) (s : Sample) (key : Key) → IsWellFormed key.automaton → IsKey key → IsGapOf t s key → KeyPasses key →
     HaveHistories key.automaton key.jumps before t key.belief → LogPasses key.automaton key.jumps (before ++ s ∷ [])
 key_passes before t s key wf is gap (i, path, passes) old =
     let a : Automaton = key.automaton in
     let p : State = parent_at key i in
     let take = passes.may_take in
     let (rows, h) = old p (in_at key.belief i take.parent) in
-    let less : IsLess (width a) p.rows rows = record { among = h.among; within = h.within; wide = (is.belief i no_state take.parent).wide; more_wide = h.wide } in
-    let there = gap_passes a wf p.loc path key.gap key.seen p.rows rows h.loc take.fits less passes.passes in
+    let reduced : IsReduced (width a) p.rows rows = record { among = h.among; within = h.within; wide = (is.belief i no_state take.parent).wide; more_wide = h.wide } in
+    let there = gap_passes a wf p.loc path key.gap key.seen p.rows rows h.loc take.fits reduced passes.passes in
     h.goes_on (s ∷ []) (path ∷ []) refl (take.few, take.fits, tt)
     (reached_first (gap_stages a p.loc path (difference s.time t) s.cells rows) [] (subst SomeReachedPasses (key_stages t s key p.loc path rows gap) there))
