@@ -20,3 +20,4 @@ pub mod GapEnds
 pub mod GapPasses
 pub mod OverflowLemmas
 pub mod ReplyLemmas
+pub mod SystemLemmas
