@@ -21,3 +21,4 @@ pub mod GapPasses
 pub mod OverflowLemmas
 pub mod ReplyLemmas
 pub mod SystemLemmas
+pub mod HistorySystems
