@@ -142,7 +142,7 @@ leg_on a l is =
     (λ ns len. omega (arith, length-append (take m ns) (pos 0 ∷ drop m ns), length-take m ns, length-drop m ns, len))
     (λ cs ns lc ln. opened_dot m cs ns) (of_rows (suc M) (leg_rows a l [])))
 
-same_leg : (loc : Location) (d : ℤ) (p u : List ℤ) (t s : ℤ) (q v : List ℤ) → p ≡ u → t ≡ s → q ≡ v → IsLeg loc d p t q ↔ IsLeg loc d u s v
+pub same_leg : (loc : Location) (d : ℤ) (p u : List ℤ) (t s : ℤ) (q v : List ℤ) → p ≡ u → t ≡ s → q ≡ v → IsLeg loc d p t q ↔ IsLeg loc d u s v
 same_leg loc d p u t s q v e f g = (
   λ h. subst (λ x. IsLeg loc d x s v) e (subst (λ x. IsLeg loc d p x v) f (subst (λ x. IsLeg loc d p t x) g h)),
   λ h. subst (λ x. IsLeg loc d x t q) (sym e) (subst (λ x. IsLeg loc d u x q) (sym f) (subst (λ x. IsLeg loc d u s x) (sym g) h)),
@@ -196,7 +196,7 @@ jump_on a e =
     (λ ns len. omega (arith, length-append (drop m ns) (take m ns), length-take m ns, length-drop m ns, len)) (swapped_dot m) (of_rows (m + m) rel))
     (taken m (λ d ns. AllHold inv (over d ns)) (m + m) (omega arith) (of_rows m inv)))
 
-same_jump : (a : Automaton) (e : ℕ) (d : ℤ) (p u q v : List ℤ) → p ≡ u → q ≡ v → IsJump a e d p q ↔ IsJump a e d u v
+pub same_jump : (a : Automaton) (e : ℕ) (d : ℤ) (p u q v : List ℤ) → p ≡ u → q ≡ v → IsJump a e d p q ↔ IsJump a e d u v
 same_jump a e d p u q v f g = (
   λ h. subst (λ x. IsJump a e d x v) f (subst (λ x. IsJump a e d p x) g h),
   λ h. subst (λ x. IsJump a e d x q) (sym f) (subst (λ x. IsJump a e d u x) (sym g) h),

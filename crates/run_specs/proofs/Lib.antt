@@ -22,3 +22,4 @@ pub mod OverflowLemmas
 pub mod ReplyLemmas
 pub mod SystemLemmas
 pub mod HistorySystems
+pub mod HistoryRuns
