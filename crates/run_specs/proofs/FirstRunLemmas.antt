@@ -52,7 +52,7 @@ take_whole : (xs : List Fraction) → take (length xs) xs ≡ xs
 take_whole [] = refl
 take_whole (x ∷ xs) = ap (λ ns. x ∷ ns) (take_whole xs)
 
-AllZip-split : (xs ys us vs : List Fraction) → length xs ≡ length ys → AllZip SameFraction (xs ++ us) (ys ++ vs) → AllZip SameFraction xs ys × AllZip SameFraction us vs
+pub AllZip-split : (xs ys us vs : List Fraction) → length xs ≡ length ys → AllZip SameFraction (xs ++ us) (ys ++ vs) → AllZip SameFraction xs ys × AllZip SameFraction us vs
 AllZip-split [] [] us vs l e = (tt, e)
 AllZip-split [] (y ∷ ys) us vs l e = absurd (omega arith)
 AllZip-split (x ∷ xs) [] us vs l e = absurd (omega arith)
@@ -114,11 +114,11 @@ scaled_same d c [] (m ∷ ms) e = absurd e
 scaled_same d c (n ∷ ns) [] e = absurd e
 scaled_same d c (n ∷ ns) (m ∷ ms) e = let a : n *ℤ c ≡ m *ℤ d = e.0 in let b = scaled_same d c ns ms e.1 in cc
 
-scaled-append : (c : ℤ) (ns ms : List ℤ) → scaled c (ns ++ ms) ≡ scaled c ns ++ scaled c ms
+pub scaled-append : (c : ℤ) (ns ms : List ℤ) → scaled c (ns ++ ms) ≡ scaled c ns ++ scaled c ms
 scaled-append c [] ms = refl
 scaled-append c (n ∷ ns) ms = ap (λ xs. (n *ℤ c) ∷ xs) (scaled-append c ns ms)
 
-split_same : (ps qs us vs : List ℤ) → length ps ≡ length qs → ps ++ us ≡ qs ++ vs → (ps ≡ qs) × (us ≡ vs)
+pub split_same : (ps qs us vs : List ℤ) → length ps ≡ length qs → ps ++ us ≡ qs ++ vs → (ps ≡ qs) × (us ≡ vs)
 split_same [] [] us vs l e = (refl, e)
 split_same [] (q ∷ qs) us vs l e = absurd (omega arith)
 split_same (p ∷ ps) [] us vs l e = absurd (omega arith)

@@ -23,3 +23,5 @@ pub mod ReplyLemmas
 pub mod SystemLemmas
 pub mod HistorySystems
 pub mod HistoryRuns
+pub mod RespelledRuns
+pub mod LeastDenominators
