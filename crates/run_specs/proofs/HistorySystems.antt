@@ -292,7 +292,7 @@ module _ (a : Automaton) (locs : All (IsLocation (width a)) a.locations) where
       gaps_system k (end_loc a l path) x.time ss paths (path_columns (width a) path n) (GapFrom a k l path (difference x.time t) x.cells P) (λ y i. are y (inr i)) (path_wide path n h)
       (gap_system k l path (difference x.time t) x.cells n P (are x (inl refl)) h s)
 
-start_system : (a : Automaton) (l : ℕ) → IsSystem (width a) (StartsAt a l)
+pub start_system : (a : Automaton) (l : ℕ) → IsSystem (width a) (StartsAt a l)
 start_system a l = go (location_at a l).init
   where
     go : (init : Option (List Row)) → IsSystem (width a) (λ d ns. IsSomeAnd init (λ rows. AllHold rows (over d ns)))

@@ -25,3 +25,4 @@ pub mod HistorySystems
 pub mod HistoryRuns
 pub mod RespelledRuns
 pub mod LeastDenominators
+pub mod RunNumbers
