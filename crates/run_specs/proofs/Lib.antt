@@ -26,3 +26,4 @@ pub mod HistoryRuns
 pub mod RespelledRuns
 pub mod LeastDenominators
 pub mod RunNumbers
+pub mod PickedValues
