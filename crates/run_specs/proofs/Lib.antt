@@ -27,3 +27,4 @@ pub mod RespelledRuns
 pub mod LeastDenominators
 pub mod RunNumbers
 pub mod PickedValues
+pub mod FirstRunExists
