@@ -27,7 +27,7 @@ gcd_small : gcd 1180591620717411303424 3072 ≡ 1024
 unfolding gcd
 gcd_small = refl
 
-fold_divides : (g : ℕ) (zs : List ℤ) →
+pub fold_divides : (g : ℕ) (zs : List ℤ) →
     (fold (λ h z. gcd h (unsigned_abs z)) g zs ∣ g) × AllByRecursion (λ z. fold (λ h y. gcd h (unsigned_abs y)) g zs ∣ unsigned_abs z) zs
 fold_divides g [] = (dvd_refl g, tt)
 fold_divides g (z ∷ zs) =

@@ -101,7 +101,7 @@ module _ {S : Fraction → Type 0} where
   same_near near far near' far' z hz s none (inr e) (inl f) = absurd (both_sides near' far' near far z hz s none f.0 f.1 e.0 e.1)
   same_near near far near' far' z hz s none (inr e) (inr f) = let b = same_ends far near far' near' z hz s e.1 f.1 in (b.1, b.0)
 
-  are_fractions : (near far : Fraction) → AreEnds S near far → IsFraction near × IsFraction far
+  pub are_fractions : (near far : Fraction) → AreEnds S near far → IsFraction near × IsFraction far
   are_fractions near far (inl e) = (e.1.low_is, e.1.high_is)
   are_fractions near far (inr e) = (e.1.high_is, e.1.low_is)
 

@@ -42,7 +42,8 @@ parts_divide e f g c d (n ∷ ns) (m ∷ ms) hg one hc hd same =
     ap (λ z. unsigned_abs n * z) (sym hc) ∙ sym (unsigned_abs-mul n c) ∙ ap unsigned_abs head ∙ unsigned_abs-mul m d ∙ ap (λ z. unsigned_abs m * z) hd in
     (part_divides e f g (unsigned_abs n) (unsigned_abs m) hg one sizes, parts_divide e f g c d ns ms hg one hc hd tail)
 
-same_list : (c : ℤ) (ns ms : List ℤ) → pos 0 <ℤ c → scaled c ns ≡ scaled c ms → ns ≡ ms
+-- numbers that are equal when scaled by one positive factor
+pub same_list : (c : ℤ) (ns ms : List ℤ) → pos 0 <ℤ c → scaled c ns ≡ scaled c ms → ns ≡ ms
 same_list c [] [] hc same = refl
 same_list c [] (m ∷ ms) hc same = absurd (let b : ⊥ = cc in b)
 same_list c (n ∷ ns) [] hc same = absurd (let b : ⊥ = cc in b)

@@ -1,5 +1,5 @@
 -- A log with an alarm has a first run.
-use Rattle.std.proofs.Common.{◌≡◌, ◌⊎◌, inl, inr, ℕ, zero, suc, ◌+◌, ◌<◌, ◌≤◌, true, false, List, [], ◌∷◌, ◌++◌, length, map, take, get_or, Option, Some, None, refl, sym, ◌∙◌, ap, subst, arith, ℤ, pos, ◌*ℤ◌, ◌<ℤ◌}
+use Rattle.std.proofs.Common.{◌≡◌, ◌⊎◌, inl, inr, ℕ, suc, ◌<◌, ◌≤◌, List, [], ◌∷◌, ◌++◌, length, map, get_or, Some, None, refl, sym, ◌∙◌, ap, subst, arith, ℤ, pos, ◌*ℤ◌, ◌<ℤ◌}
 use Rattle.std.specs.Prelude.{All, IfSome, IsSomeAnd}
 use Rattle.std.specs.List.{AllZip, list_any}
 use Rattle.std.proofs.lemmas.Bool.{cases_lt, cases_Bool}
@@ -14,21 +14,21 @@ use Rattle.run_specs.proofs.PickedLemmas.{AllFractions, fraction_at, length-frac
 use Rattle.run_specs.proofs.LeastHistories.{IsWithin, least_history}
 use Rattle.run_specs.proofs.SystemLemmas.{IsSystem, nowhere_holds}
 use Rattle.run_specs.proofs.HistorySystems.{AreCells, HistoryHolds, columns, history_system}
-use Rattle.run_specs.proofs.RunNumbers.{RunNumbers, NumbersRun, run_numbers, numbers_run, reduced_run, visits_same}
+use Rattle.run_specs.proofs.RunNumbers.{NumbersRun, run_numbers, numbers_run, reduced_run, visits_same}
 use Rattle.run_specs.proofs.PickedValues.{pick-same, zip_long, zip_at, zip_at_take, zip_take}
 use Rattle.poly_specs.specs.Lists.{In}
 use Rattle.poly_specs.specs.Fractions.{Fraction, IsFraction, SameFraction, fractions, zero_fraction}
 use Rattle.poly_specs.specs.LowestTerms.{IsLowest}
-use Rattle.poly_specs.specs.Rows.{Point, Row, HasPoint, over, coordinate, AllHold}
+use Rattle.poly_specs.specs.Rows.{Point, over, coordinate, AllHold}
 use Rattle.poly_specs.specs.Bounds.{IsPoint}
 use Rattle.poly_specs.specs.Picks.{IsPick}
-use Rattle.poly_specs.specs.Pickings.{Picking, CanTake, IsOpen, ArePicked, ArePickedNumbers}
-use Rattle.run_specs.specs.Automaton.{Automaton, Transition, nowhere, no_transition, width, location_at, transition_at, tolerance_at}
+use Rattle.poly_specs.specs.Pickings.{Picking, IsOpen, ArePicked}
+use Rattle.run_specs.specs.Automaton.{Automaton, Transition, nowhere, no_transition, width, transition_at, tolerance_at}
 use Rattle.run_specs.specs.WellFormed.{IsWellFormed}
 use Rattle.run_specs.specs.Logs.{Sample, IsSample, IsLog, cell_at}
 use Rattle.run_specs.specs.Runs.{Leg, Move, GapRun, Place, Run, LeadOn, Follows, IsStart, IsRun, VisitsUnsafe, path_of, end_of, goes_unsafe}
 use Rattle.run_specs.specs.Histories.{History, history_of, IsEarlier}
-use Rattle.run_specs.specs.FirstRun.{picked, pick_at, IsAlarmRun, Takes, IsLeft, IsReduced, IsFirstRun}
+use Rattle.run_specs.specs.FirstRun.{picked, pick_at, IsAlarmRun, IsLeft, IsReduced, IsFirstRun}
 use Rattle.run_specs.specs.Verdicts.{IsAlarmed}
 
 -- two fractions that equal a third are equal

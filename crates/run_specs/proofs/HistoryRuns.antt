@@ -1,18 +1,18 @@
 -- A run from the numbers of its history, and the numbers from a run.
-use Rattle.std.proofs.Common.{◌≡◌, ℕ, zero, suc, ◌+◌, ◌<◌, ◌≤◌, List, [], ◌∷◌, ◌++◌, length, length-append, length-take, length-drop, append_assoc, take, drop, map, Option, refl, sym, ◌∙◌, ap, subst, arith, ℤ, pos, ◌+ℤ◌, ◌*ℤ◌, ◌<ℤ◌}
+use Rattle.std.proofs.Common.{◌≡◌, ℕ, zero, suc, ◌+◌, ◌<◌, ◌≤◌, List, [], ◌∷◌, ◌++◌, length, length-take, length-drop, append_assoc, take, drop, map, refl, sym, ◌∙◌, ap, subst, arith, ℤ, pos, ◌+ℤ◌, ◌<ℤ◌}
 use Rattle.std.proofs.lemmas.Int.{ints}
 use Rattle.std.proofs.lemmas.List.{take-append-drop, length-map}
-use Rattle.poly_specs.proofs.IntLemmas.{mul_comm_int, same_cancel}
+use Rattle.poly_specs.proofs.PrimitiveLemmas.{same_list}
 use Rattle.poly_specs.proofs.LinearLemmas.{dot-append}
 use Rattle.run_specs.proofs.StageLemmas.{dot-zeros, length-zeros}
 use Rattle.run_specs.proofs.MixLemmas.{transitions}
 use Rattle.run_specs.proofs.HistorySystems.{LegAfter, JumpAfter, PathFrom, GapFrom, GapsFrom, path_columns, gaps_columns, elapsed, take_here, drop_here, drop_number, same_leg, same_jump}
 use Rattle.poly_specs.specs.Lists.{dot, scaled, number_at}
 use Rattle.poly_specs.specs.Fractions.{Fraction, SameFraction, difference}
-use Rattle.poly_specs.specs.Rows.{Point, over, SamePoint}
+use Rattle.poly_specs.specs.Rows.{over, SamePoint}
 use Rattle.run_specs.specs.Automaton.{Automaton, width, location_at, transition_at}
 use Rattle.run_specs.specs.Logs.{Sample, IsPassing}
-use Rattle.run_specs.specs.Runs.{Leg, Move, GapRun, Place, IsLeg, IsJump, LeadOn, IsGapRun, Continues, Follows, path_of, end_of, end_loc, end_point, start_point, total}
+use Rattle.run_specs.specs.Runs.{Leg, Move, GapRun, Place, IsLeg, IsJump, LeadOn, IsGapRun, Follows, path_of, end_of, end_loc, end_point, total}
 use Rattle.run_specs.specs.FirstRun.{backwards}
 use Rattle.run_specs.specs.Stages.{zeros}
 
@@ -272,16 +272,6 @@ gap_in a k duration s P g tail lp few is passes before =
     )
 
 -- ---- to the numbers of all gaps
-
-pub same_list : (c : ℤ) (ns ms : List ℤ) → pos 0 <ℤ c → scaled c ns ≡ scaled c ms → ns ≡ ms
-same_list c [] [] hc same = refl
-same_list c [] (m ∷ ms) hc same = absurd (let b : ⊥ = cc in b)
-same_list c (n ∷ ns) [] hc same = absurd (let b : ⊥ = cc in b)
-same_list c (n ∷ ns) (m ∷ ms) hc same =
-    let head : n *ℤ c ≡ m *ℤ c = cc in
-    let tail : scaled c ns ≡ scaled c ms = cc in
-    let here : n ≡ m = same_cancel c n m hc (mul_comm_int c n ∙ head ∙ mul_comm_int m c) in
-    let rest = same_list c ns ms hc tail in cc
 
 -- the numbers p over d are those where the gaps start
 pub record StartsFrom (a : Automaton) (l : ℕ) (d : ℤ) (p : List ℤ) (before : Place) : Type 0 where

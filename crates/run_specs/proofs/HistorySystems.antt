@@ -1,20 +1,20 @@
 -- The runs of one history as the points of one system: of all their numbers, the last values first, and then backwards.
-use Rattle.std.proofs.Common.{◌≡◌, ◌↔◌, ◌⊎◌, inl, inr, ℕ, zero, suc, ◌+◌, ◌<◌, ◌≤◌, List, [], ◌∷◌, ◌++◌, length, length-append, length-take, length-drop, take, drop, map, Option, Some, None, refl, sym, ◌∙◌, ap, subst, arith, ℤ, pos, ◌+ℤ◌, ◌*ℤ◌, ◌<ℤ◌}
-use Rattle.std.specs.Prelude.{All, IfSome, IsSomeAnd}
+use Rattle.std.proofs.Common.{◌≡◌, ◌↔◌, ◌⊎◌, inl, inr, ℕ, zero, suc, ◌+◌, ◌<◌, ◌≤◌, List, [], ◌∷◌, ◌++◌, length, length-append, length-take, length-drop, take, drop, Option, Some, None, refl, sym, ap, subst, arith, ℤ, pos, ◌+ℤ◌, ◌*ℤ◌}
+use Rattle.std.specs.Prelude.{All, IsSomeAnd}
 use Rattle.std.proofs.lemmas.Int.{ints}
 use Rattle.std.proofs.lemmas.Bool.{cases_lt}
 use Rattle.std.proofs.lemmas.List.{get_or_past, take-append-drop}
 use Rattle.poly_specs.proofs.LinearLemmas.{dot-nil, dot-append}
 use Rattle.poly_specs.proofs.EliminationLemmas.{AllHold-from_in}
-use Rattle.run_specs.proofs.StageLemmas.{leg_exact, dot-zeros, length-zeros}
+use Rattle.run_specs.proofs.StageLemmas.{leg_exact}
 use Rattle.run_specs.proofs.SampleLemmas.{sample_exact}
-use Rattle.run_specs.proofs.SystemLemmas.{IsSystem, of_rows, alike, pulled, dropped, taken, both, always, impossible, when, sum_is, nowhere_holds}
+use Rattle.run_specs.proofs.SystemLemmas.{IsSystem, of_rows, alike, pulled, dropped, taken, both, impossible, when, sum_is, nowhere_holds}
 use Rattle.poly_specs.specs.Lists.{In, dot, number_at}
 use Rattle.poly_specs.specs.Fractions.{Fraction, IsFraction, SameFraction, difference, zero_fraction}
 use Rattle.poly_specs.specs.Rows.{Row, over, AllHold}
 use Rattle.run_specs.specs.Automaton.{Automaton, Location, nowhere, width, location_at, transition_at, tolerance_at}
-use Rattle.run_specs.specs.WellFormed.{IsLocation, IsWellFormed}
-use Rattle.run_specs.specs.Logs.{Sample, IsSample, IsLog, IsPassing, cell_at}
+use Rattle.run_specs.specs.WellFormed.{IsLocation}
+use Rattle.run_specs.specs.Logs.{Sample, IsPassing, cell_at}
 use Rattle.run_specs.specs.Runs.{IsLeg, IsJump, end_loc}
 use Rattle.run_specs.specs.Histories.{History}
 use Rattle.run_specs.specs.Stages.{zeros, leg_rows, sample_rows}
@@ -132,12 +132,12 @@ leg_on a l is =
     let m : ℕ = width a in
     let M : ℕ = suc m + m in
     alike M (λ d ns. AllHold (leg_rows a l []) (over d (take m ns ++ pos 0 ∷ drop m ns))) (LegOn (location_at a l) m) (λ d ns h len.
-        let at : drop m ns ≡ number_at m ns ∷ drop (suc m) ns = drop_number m ns (omega (arith, len)) in
-        let e = leg_exact a l [] d (take m ns) (pos 0) (number_at m ns) (drop (suc m) ns) is (λ i r g. absurd (omega arith))
-        (omega (arith, length-take m ns, len)) (omega (arith, length-drop (suc m) ns, len)) in (
-          λ g. (e.0 (subst (λ xs. AllHold (leg_rows a l []) (over d (take m ns ++ pos 0 ∷ xs))) at g)).1,
-          λ g. subst (λ xs. AllHold (leg_rows a l []) (over d (take m ns ++ pos 0 ∷ xs))) (sym at) (e.1 (AllHold-from_in [] _ (λ r i. absurd i), g)),
-        ))
+    let at : drop m ns ≡ number_at m ns ∷ drop (suc m) ns = drop_number m ns (omega (arith, len)) in
+    let e = leg_exact a l [] d (take m ns) (pos 0) (number_at m ns) (drop (suc m) ns) is (λ i r g. absurd (omega arith))
+    (omega (arith, length-take m ns, len)) (omega (arith, length-drop (suc m) ns, len)) in (
+      λ g. (e.0 (subst (λ xs. AllHold (leg_rows a l []) (over d (take m ns ++ pos 0 ∷ xs))) at g)).1,
+      λ g. subst (λ xs. AllHold (leg_rows a l []) (over d (take m ns ++ pos 0 ∷ xs))) (sym at) (e.1 (AllHold-from_in [] _ (λ r i. absurd i), g)),
+    ))
     (pulled (suc M) (λ d ns. AllHold (leg_rows a l []) (over d ns)) M (λ cs. take m cs ++ drop (suc m) cs) (λ ns. take m ns ++ pos 0 ∷ drop m ns)
     (λ ns len. omega (arith, length-append (take m ns) (pos 0 ∷ drop m ns), length-take m ns, length-drop m ns, len))
     (λ cs ns lc ln. opened_dot m cs ns) (of_rows (suc M) (leg_rows a l [])))
@@ -155,7 +155,7 @@ leg_among a l k is h =
     let M : ℕ = suc m + m in
     alike k (λ d ns. LegOn (location_at a l) m d (take M ns)) (λ d ns. IsLeg (location_at a l) d (take m (drop (suc m) ns)) (number_at m ns) (take m ns))
     (λ d ns hd len. same_leg (location_at a l) d (drop (suc m) (take M ns)) (take m (drop (suc m) ns)) (number_at m (take M ns)) (number_at m ns) (take m (take M ns)) (take m ns)
-        (drop_take (suc m) m M ns refl) (number_take m M ns (omega arith)) (take_take m M ns (omega arith)))
+    (drop_take (suc m) m M ns refl) (number_take m M ns (omega arith)) (take_take m M ns (omega arith)))
     (taken M (LegOn (location_at a l) m) k h (leg_on a l is))
 
 -- past the last location no point is
@@ -188,9 +188,9 @@ jump_on a e =
     let inv : List Row = (location_at a (transition_at a e).target).invariant in
     alike (m + m) (λ d ns. AllHold rel (over d (drop m ns ++ take m ns)) × AllHold inv (over d (take m ns))) (JumpOn a e m)
     (λ d ns hd len. (
-        λ g. record { same_size = omega (arith, length-take m ns, length-drop m ns, len); related = g.0; inside_after = g.1 },
-        λ g. (g.related, g.inside_after),
-      ))
+      λ g. record { same_size = omega (arith, length-take m ns, length-drop m ns, len); related = g.0; inside_after = g.1 },
+      λ g. (g.related, g.inside_after),
+    ))
     (both (m + m) (λ d ns. AllHold rel (over d (drop m ns ++ take m ns))) (λ d ns. AllHold inv (over d (take m ns)))
     (pulled (m + m) (λ d ns. AllHold rel (over d ns)) (m + m) (λ cs. drop m cs ++ take m cs) (λ ns. drop m ns ++ take m ns)
     (λ ns len. omega (arith, length-append (drop m ns) (take m ns), length-take m ns, length-drop m ns, len)) (swapped_dot m) (of_rows (m + m) rel))
@@ -207,7 +207,7 @@ jump_system a e k h =
     let m : ℕ = width a in
     alike k (λ d ns. JumpOn a e m d (take (m + m) ns)) (λ d ns. IsJump a e d (take m (drop m ns)) (take m ns))
     (λ d ns hd len. same_jump a e d (drop m (take (m + m) ns)) (take m (drop m ns)) (take m (take (m + m) ns)) (take m ns)
-        (drop_take m m (m + m) ns refl) (take_take m (m + m) ns (omega arith)))
+    (drop_take m m (m + m) ns refl) (take_take m (m + m) ns (omega arith)))
     (taken (m + m) (JumpOn a e m) k h (jump_on a e))
 
 -- ---- the system of a sample
@@ -230,10 +230,10 @@ passing_system a cells k are h =
     taken m (λ d ns. IsPassing a cells (over d ns)) k h
     (alike m (λ d ns. AllHold rows (over d (ns ++ pos 0 ∷ []))) (λ d ns. IsPassing a cells (over d ns))
     (λ d ns hd len.
-        let e = sample_exact a zero_fraction cells [] d ns (pos 0) are.tolerances are.values are.sized len in (
-          λ g. (e.0 g).2,
-          λ g. e.1 (AllHold-from_in [] _ (λ r i. absurd i), omega (arith, ints), g),
-        ))
+    let e = sample_exact a zero_fraction cells [] d ns (pos 0) are.tolerances are.values are.sized len in (
+      λ g. (e.0 g).2,
+      λ g. e.1 (AllHold-from_in [] _ (λ r i. absurd i), omega (arith, ints), g),
+    ))
     (pulled (suc m) (λ d ns. AllHold rows (over d ns)) m (λ cs. cs) (λ ns. ns ++ pos 0 ∷ []) (λ ns len. omega (arith, length-append ns (pos 0 ∷ []), len))
     (λ cs ns lc ln. one_more_zero cs ns) (of_rows (suc m) rows)))
 

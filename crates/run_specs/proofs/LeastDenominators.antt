@@ -6,9 +6,8 @@ use Rattle.std.specs.List.{AllZip, AllByRecursion}
 use Rattle.std.proofs.Math.Nat.{mul-dvd-mul_left, dvd_of_mul-dvd-mul_left, eq-one_of_dvd-one, eq-zero_of_zero-dvd}
 use Rattle.std.proofs.lemmas.Int.{ints, unsigned_abs-mul}
 use Rattle.std.proofs.lemmas.List.Elements.{recursion_from_All}
-use Rattle.std.proofs.lemmas.Nat.Gcd.{dvd_refl, dvd_trans}
-use Rattle.poly_specs.proofs.IntLemmas.{products, mul_comm_int}
-use Rattle.poly_specs.proofs.CombinationLemmas.{gcd-IsGcd, exact}
+use Rattle.poly_specs.proofs.IntLemmas.{products}
+use Rattle.poly_specs.proofs.CombinationLemmas.{gcd-IsGcd, fold_divides, exact}
 use Rattle.poly_specs.proofs.PrimitiveLemmas.{IsPrimitive}
 use Rattle.run_specs.proofs.RespelledRuns.{IsSpelling, IsWritten, AllPositive, numbers_of}
 use Rattle.poly_specs.specs.Lists.{scaled}
@@ -20,13 +19,6 @@ use Rattle.run_specs.specs.FirstRun.{IsReduced}
 -- the greatest common divisor of a number and the numbers of a list
 abbrev common : ℕ → List ℤ → ℕ
 common g zs = fold (λ h z. gcd h (unsigned_abs z)) g zs
-
-common_divides : (g : ℕ) (zs : List ℤ) → (common g zs ∣ g) × AllByRecursion (λ z. common g zs ∣ unsigned_abs z) zs
-common_divides g [] = (dvd_refl g, tt)
-common_divides g (z ∷ zs) =
-    let rest = common_divides (gcd g (unsigned_abs z)) zs in
-    let this = gcd-IsGcd g (unsigned_abs z) in
-    (dvd_trans _ rest.0 this.0, (dvd_trans _ rest.0 this.1, rest.1))
 
 common_greatest : (k g : ℕ) (zs : List ℤ) → k ∣ g → AllByRecursion (λ z. k ∣ unsigned_abs z) zs → k ∣ common g zs
 common_greatest k g [] h all = h
@@ -81,7 +73,7 @@ pub record Least (d : ℤ) (ns : List ℤ) : Type 0 where
 pub least : (d : ℤ) (ns : List ℤ) → pos 0 <ℤ d → Least d ns
 least d ns hd =
     let g : ℕ = common (unsigned_abs d) ns in
-    let div = common_divides (unsigned_abs d) ns in
+    let div = fold_divides (unsigned_abs d) ns in
     record {
       point = over (int_div d (pos g)) (quotients g ns);
       positive = quotient_positive g d hd div.0;

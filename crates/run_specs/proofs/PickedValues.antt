@@ -1,9 +1,10 @@
 -- A pick of an interval in another spelling, and lists of fractions compared place by place.
-use Rattle.std.proofs.Common.{◌≡◌, ◌⊎◌, inl, inr, ℕ, zero, suc, ◌*◌, ◌<◌, List, [], ◌∷◌, length, take, get_or, refl, sym, ◌∙◌, ap, subst, arith, ℤ, pos, ◌*ℤ◌, ◌≤ℤ◌, ◌<ℤ◌, unsigned_abs}
+use Rattle.std.proofs.Common.{◌≡◌, ◌⊎◌, inl, inr, ℕ, zero, suc, ◌*◌, ◌<◌, List, [], ◌∷◌, length, take, get_or, refl, sym, ◌∙◌, ap, arith, ℤ, pos, ◌*ℤ◌, ◌≤ℤ◌, unsigned_abs}
 use Rattle.std.specs.List.{AllZip}
-use Rattle.std.proofs.lemmas.Int.{ints, unsigned_abs-mul}
-use Rattle.poly_specs.proofs.IntLemmas.{products, mul_comm_int, mul_assoc_int, mul_le, le_cancel, same_cancel}
+use Rattle.std.proofs.lemmas.Int.{unsigned_abs-mul}
+use Rattle.poly_specs.proofs.IntLemmas.{products, mul_comm_int, mul_le, le_cancel, same_cancel}
 use Rattle.poly_specs.proofs.CombinationLemmas.{positive}
+use Rattle.poly_specs.proofs.PickLemmas.{are_fractions}
 use Rattle.poly_specs.proofs.FractionLemmas.{same-trans, middle-den}
 use Rattle.poly_specs.specs.Fractions.{Fraction, IsFraction, SameFraction, zero_fraction}
 use Rattle.poly_specs.specs.Sets.{IsInterval}
@@ -42,10 +43,6 @@ nearer-same x y z hx hy e h =
 
     last : (b d c : ℤ) → (b *ℤ d) *ℤ c ≡ d *ℤ (b *ℤ c)
     last b d c = omega (arith, products)
-
-are_fractions : {S : Fraction → Type 0} (near far : Fraction) → AreEnds S near far → IsFraction near × IsFraction far
-are_fractions near far (inl e) = (e.1.low_is, e.1.high_is)
-are_fractions near far (inr e) = (e.1.high_is, e.1.low_is)
 
 -- the pick does not depend on how the fraction is written
 pub pick-same : {S : Fraction → Type 0} (x y : Fraction) → IsInterval S → IsFraction y → SameFraction x y → IsPick S x → IsPick S y

@@ -1,17 +1,11 @@
 -- A run whose gaps are written over other denominators: over one for all gaps, or each over its least.
-use Rattle.std.proofs.Common.{◌≡◌, inl, inr, ℕ, zero, suc, ◌+◌, ◌*◌, ◌<◌, ◌≤◌, max, List, [], ◌∷◌, ◌++◌, length, length-append, length-take, length-drop, append_assoc, take, drop, fold, map, refl, sym, ◌∙◌, ap, subst, arith, ℤ, pos, negsuc, ◌+ℤ◌, ◌*ℤ◌, ◌<ℤ◌, unsigned_abs}
-use Rattle.std.specs.Prelude.{All, false}
-use Rattle.std.specs.Int.{◌∣◌}
-use Rattle.std.specs.List.{AllZip, AllByRecursion}
-use Rattle.std.proofs.Math.Nat.{mul-dvd-mul_left, dvd_of_mul-dvd-mul_left}
-use Rattle.std.proofs.lemmas.Int.{ints, unsigned_abs-mul}
-use Rattle.std.proofs.lemmas.List.{append-nil, length-map}
-use Rattle.std.proofs.lemmas.List.Elements.{All-head, All-tail}
-use Rattle.std.proofs.lemmas.Nat.Gcd.{dvd_refl, dvd_trans}
-use Rattle.poly_specs.proofs.IntLemmas.{products, mul_comm_int, product_positive}
+use Rattle.std.proofs.Common.{◌≡◌, inl, inr, ℕ, suc, ◌+◌, ◌≤◌, List, [], ◌∷◌, ◌++◌, length, length-append, length-take, append_assoc, take, drop, map, refl, sym, ◌∙◌, ap, subst, arith, ℤ, pos, ◌*ℤ◌, ◌<ℤ◌}
+use Rattle.std.specs.Prelude.{All}
+use Rattle.std.specs.List.{AllZip}
+use Rattle.std.proofs.lemmas.Int.{ints}
+use Rattle.std.proofs.lemmas.List.{append-nil, drop_all, length-map}
+use Rattle.poly_specs.proofs.IntLemmas.{products, product_positive}
 use Rattle.poly_specs.proofs.LinearLemmas.{SamePoint-trans}
-use Rattle.poly_specs.proofs.CombinationLemmas.{gcd-IsGcd, divisor-pos, times-divided}
-use Rattle.poly_specs.proofs.PrimitiveLemmas.{IsPrimitive}
 use Rattle.run_specs.proofs.MixLemmas.{transitions}
 use Rattle.run_specs.proofs.MixRuns.{length-same_point}
 use Rattle.run_specs.proofs.FirstRunLemmas.{scaled-append, split_same}
@@ -19,14 +13,13 @@ use Rattle.run_specs.proofs.SystemLemmas.{at_same_point, always}
 use Rattle.run_specs.proofs.HistorySystems.{GapFrom, path_columns, gaps_columns, gap_system, AreCells}
 use Rattle.run_specs.proofs.HistoryRuns.{backs, ends, gap_at, gap_in, gap_out, lead_sized}
 use Rattle.poly_specs.specs.Lists.{In, scaled}
-use Rattle.poly_specs.specs.Elimination.{gcd, numbers, divisor, divided, times}
 use Rattle.poly_specs.specs.Fractions.{Fraction, difference}
-use Rattle.poly_specs.specs.Rows.{Point, Row, over, SamePoint}
+use Rattle.poly_specs.specs.Rows.{Point, over, SamePoint}
 use Rattle.run_specs.specs.Automaton.{Automaton, width, transition_at}
 use Rattle.run_specs.specs.WellFormed.{IsLocation}
 use Rattle.run_specs.specs.Logs.{Sample, IsPassing}
-use Rattle.run_specs.specs.Runs.{Leg, Move, GapRun, Place, LeadOn, IsGapRun, Continues, Follows, path_of, end_of, end_loc, end_point, start_point}
-use Rattle.run_specs.specs.FirstRun.{backwards, IsReduced}
+use Rattle.run_specs.specs.Runs.{Leg, Move, GapRun, Place, LeadOn, IsGapRun, Follows, path_of, end_of, end_loc, end_point, start_point}
+use Rattle.run_specs.specs.FirstRun.{backwards}
 
 -- all numbers of a gap run
 abbrev pub numbers_of : GapRun → List ℤ
@@ -108,21 +101,21 @@ pub respelled : (a : Automaton) (k : ℕ) (duration : Fraction) (s : Sample) (g 
     Respelled a k duration s g q
 respelled a k duration s g q locs are lp few run passes hq same =
     let m : ℕ = width a in
-    let All_ : ℤ → List ℤ → Type 0 = λ d ns. Unit {0} in
-    let P : ℤ → List ℤ → Type 0 = GapFrom a k g.start_loc (path_of g) duration s.cells All_ in
+    let Anywhere : ℤ → List ℤ → Type 0 = λ d ns. Unit {0} in
+    let P : ℤ → List ℤ → Type 0 = GapFrom a k g.start_loc (path_of g) duration s.cells Anywhere in
     let b : List ℤ = backwards g.start g.moves g.last in
     let plain : g.last.at_end ++ (b ++ []) ≡ numbers_of g = ap (λ xs. g.last.at_end ++ xs) (append-nil b) in
-    let here : P g.den (numbers_of g) = subst (P g.den) plain (gap_in a k duration s All_ g [] lp few run passes tt) in
+    let here : P g.den (numbers_of g) = subst (P g.den) plain (gap_in a k duration s Anywhere g [] lp few run passes tt) in
     let N : ℕ = path_columns m (path_of g) m in
     let long : length (numbers_of g) ≡ N =
     ap length (sym plain) ∙ path_count a g.den g.start_loc g.start g.moves g.last [] lp run.leads ∙ ap (path_columns m (path_of g)) (omega (arith, length-append g.start [], lp)) in
     let long_q : length q.num ≡ N = sym (length-same_point (over g.den (numbers_of g)) q same) ∙ long in
-    let sys = gap_system a locs k g.start_loc (path_of g) duration s.cells m All_ are (omega arith) (always m) in
+    let sys = gap_system a locs k g.start_loc (path_of g) duration s.cells m Anywhere are (omega arith) (always m) in
     let there : P q.den q.num = at_same_point N P sys g.den q.den (numbers_of g) q.num run.positive hq long long_q same here in
-    let r = gap_out a k g.start_loc (path_of g) duration s m All_ q.den q.num (omega arith) long_q hq there in
+    let r = gap_out a k g.start_loc (path_of g) duration s m Anywhere q.den q.num (omega arith) long_q hq there in
     let p : List ℤ = take m r.parts.rest in
     let lr : length p ≡ m = omega (arith, length-take m r.parts.rest, r.parts.long) in
-    let none : drop m r.parts.rest ≡ [] = empty (drop m r.parts.rest) (omega (arith, length-drop m r.parts.rest, r.parts.long)) in
+    let none : drop m r.parts.rest ≡ [] = drop_all m r.parts.rest (omega (arith, r.parts.long)) in
     let gap : GapRun = gap_at q.den g.start_loc p r.parts.moves r.parts.last in
     let c : List ℤ = backwards p r.parts.moves r.parts.last in
     let spelt : q.num ≡ numbers_of gap = r.parts.numbers ∙ ap (λ xs. r.parts.last.at_end ++ (c ++ xs)) none ∙ ap (λ xs. r.parts.last.at_end ++ xs) (append-nil c) in
@@ -147,10 +140,6 @@ respelled a k duration s g q locs are lp few run passes hq same =
       gap_run = r.gap_run;
       passes = r.passes;
     }
-  where
-    empty : (xs : List ℤ) → length xs ≡ 0 → xs ≡ []
-    empty [] e = refl
-    empty (x ∷ xs) e = absurd (omega arith)
 
 -- ---- all gaps
 
@@ -191,12 +180,12 @@ gaps_respelled a k p q t (s ∷ ss) (g ∷ gs) (x ∷ qs) locs are is h spell =
     let le : length g.last.at_end ≡ width a = h.0.passes.sized in
     let rest = gaps_respelled a k (end_of a g) (end_of a r.gap) s.time ss gs qs locs (λ y i. are y (inr i))
     (record {
-        loc = ap (λ l. end_loc a l (path_of r.gap)) r.is.loc ∙ ap (λ w. end_loc a g.start_loc w) r.is.path;
-        sized = le;
-        positive = h.0.gap_run.positive;
-        other_positive = r.is.positive;
-        point = r.is.end;
-      }) h.1 spell.1 in
+      loc = ap (λ l. end_loc a l (path_of r.gap)) r.is.loc ∙ ap (λ w. end_loc a g.start_loc w) r.is.path;
+      sized = le;
+      positive = h.0.gap_run.positive;
+      other_positive = r.is.positive;
+      point = r.is.end;
+    }) h.1 spell.1 in
     record {
       gaps = r.gap ∷ rest.gaps;
       follows = (

@@ -1,24 +1,23 @@
 -- The numbers of a run of a history are a point of the history's system, and each such point gives a run.
-use Rattle.std.proofs.Common.{◌≡◌, inl, inr, ℕ, zero, suc, ◌+◌, ◌<◌, ◌≤◌, List, [], ◌∷◌, ◌++◌, length, length-append, length-take, length-drop, take, drop, map, Option, None, Some, refl, sym, ◌∙◌, ap, subst, arith, ℤ, pos, ◌*ℤ◌, ◌<ℤ◌}
-use Rattle.std.specs.Prelude.{All, IsSomeAnd}
+use Rattle.std.proofs.Common.{◌≡◌, inl, inr, ℕ, zero, suc, List, [], ◌∷◌, ◌++◌, length, take, drop, map, refl, sym, ◌∙◌, ap, subst, arith, ℤ, pos, ◌*ℤ◌, ◌<ℤ◌}
+use Rattle.std.specs.Prelude.{All}
 use Rattle.std.specs.List.{AllZip, list_any}
-use Rattle.std.proofs.lemmas.Bool.{cases_lt}
 use Rattle.std.proofs.lemmas.Int.{ints}
-use Rattle.std.proofs.lemmas.List.{append-nil, map-append, get_or_past}
+use Rattle.std.proofs.lemmas.List.{append-nil, map-append, take_all, drop_all}
 use Rattle.std.proofs.lemmas.List.Folds.{Any-from_list_any, list_any-from_Any}
 use Rattle.poly_specs.proofs.IntLemmas.{product_positive}
 use Rattle.run_specs.proofs.MixRuns.{IsAlike, all_alike, start_places, length-same_point}
 use Rattle.run_specs.proofs.SystemLemmas.{at_same_point}
 use Rattle.run_specs.proofs.HistorySystems.{StartsAt, HistoryHolds, columns, gaps_columns, GapsFrom, start_system, AreCells}
-use Rattle.run_specs.proofs.HistoryRuns.{backs, ends, AllOver, StartsFrom, gaps_in, gaps_out}
-use Rattle.run_specs.proofs.RespelledRuns.{IsRespelled, IsSpelling, IsWritten, AllPositive, AllOf, GapsRespelled, product, product_is_positive, commons, commons_spell, commons_over, gaps_respelled, gaps_count}
-use Rattle.run_specs.proofs.LeastDenominators.{AllReduced, AllPrimitive, least_points, all_reduced}
+use Rattle.run_specs.proofs.HistoryRuns.{backs, ends, AllOver, gaps_in, gaps_out}
+use Rattle.run_specs.proofs.RespelledRuns.{IsRespelled, IsWritten, AllPositive, AllOf, product, product_is_positive, commons, commons_spell, commons_over, gaps_respelled, gaps_count}
+use Rattle.run_specs.proofs.LeastDenominators.{AllReduced, least_points, all_reduced}
 use Rattle.poly_specs.specs.Lists.{In, scaled}
-use Rattle.poly_specs.specs.Fractions.{Fraction, IsFraction, SameFraction, fractions, zero_fraction}
+use Rattle.poly_specs.specs.Fractions.{Fraction, SameFraction, fractions, zero_fraction}
 use Rattle.poly_specs.specs.Rows.{Point, over, SamePoint}
-use Rattle.run_specs.specs.Automaton.{Automaton, width, location_at, tolerance_at}
-use Rattle.run_specs.specs.WellFormed.{IsLocation, IsWellFormed}
-use Rattle.run_specs.specs.Logs.{Sample, IsSample, IsLog, cell_at}
+use Rattle.run_specs.specs.Automaton.{Automaton, width}
+use Rattle.run_specs.specs.WellFormed.{IsLocation}
+use Rattle.run_specs.specs.Logs.{Sample}
 use Rattle.run_specs.specs.Runs.{GapRun, Place, Run, Follows, IsStart, IsRun, VisitsUnsafe, path_of, end_of, goes_unsafe, start_point}
 use Rattle.run_specs.specs.Histories.{History, history_of}
 use Rattle.run_specs.specs.FirstRun.{backwards, numbers_before, last_values, picked, IsReduced}
@@ -158,18 +157,6 @@ pub record NumbersRun (a : Automaton) (k : ℕ) (log : List Sample) (h : History
   pub history : history_of run ≡ h
   pub picks : picked run ≡ fractions d ns
 
-take_all : (m : ℕ) (ns : List ℤ) → length ns ≡ m → take m ns ≡ ns
-take_all zero [] e = refl
-take_all zero (n ∷ ns) e = absurd (omega arith)
-take_all (suc m) [] e = refl
-take_all (suc m) (n ∷ ns) e = ap (λ xs. n ∷ xs) (take_all m ns (omega arith))
-
-drop_all : (m : ℕ) (ns : List ℤ) → length ns ≡ m → drop m ns ≡ []
-drop_all zero [] e = refl
-drop_all zero (n ∷ ns) e = absurd (omega arith)
-drop_all (suc m) [] e = refl
-drop_all (suc m) (n ∷ ns) e = drop_all m ns (omega arith)
-
 picked_all : (a : Automaton) (k : ℕ) (before : Place) (log : List Sample) (d : ℤ) (p ns : List ℤ) (gs : List GapRun) → (log ≡ [] → ⊥) → Follows a k before zero_fraction log gs → AllOver d gs →
     ns ≡ ends p gs ++ backs gs → last_values gs ++ numbers_before gs ≡ fractions d ns
 picked_all a k before [] d p ns gs some h dens e = absurd (some refl)
@@ -182,8 +169,8 @@ numbers_run a k log h d ns some hd len holds =
     let m : ℕ = width a in
     let r = gaps_out a k h.start zero_fraction log h.paths m (StartsAt a h.start) d ns (omega arith) len hd holds in
     let p : List ℤ = take m r.rest in
-    let whole : p ≡ r.rest = take_all m r.rest r.long in
-    let none : drop m r.rest ≡ [] = drop_all m r.rest r.long in
+    let whole : p ≡ r.rest = take_all m r.rest (omega (arith, r.long)) in
+    let none : drop m r.rest ≡ [] = drop_all m r.rest (omega (arith, r.long)) in
     let parts : ns ≡ ends p r.gaps ++ backs r.gaps = r.numbers ∙ ap (λ xs. ends p r.gaps ++ (backs r.gaps ++ xs)) none ∙ ap (λ xs. ends p r.gaps ++ xs) (append-nil (backs r.gaps)) in
     let start : Place = record { loc = h.start; point = over d p } in
     record {

@@ -1,15 +1,14 @@
 -- Sets of points that are the points of a system of rows, and how such sets are made of others.
-use Rattle.std.proofs.Common.{◌≡◌, ◌↔◌, ◌⊎◌, inl, inr, ℕ, zero, suc, ◌+◌, ◌≤◌, List, [], ◌∷◌, ◌++◌, length, length-append, length-take, length-drop, take, drop, map, refl, sym, ◌∙◌, ap, subst, arith, ℤ, pos, ◌+ℤ◌, ◌*ℤ◌, ◌≤ℤ◌, ◌<ℤ◌, neg_ℤ}
-use Rattle.std.specs.Prelude.{All, false}
+use Rattle.std.proofs.Common.{◌≡◌, ◌↔◌, ◌⊎◌, inl, inr, ℕ, zero, suc, ◌+◌, ◌≤◌, List, [], ◌∷◌, ◌++◌, length, length-take, length-drop, take, drop, map, refl, sym, ◌∙◌, ap, subst, arith, ℤ, pos, ◌+ℤ◌, ◌*ℤ◌, ◌<ℤ◌, neg_ℤ}
+use Rattle.std.specs.Prelude.{false}
 use Rattle.std.proofs.lemmas.Int.{ints}
-use Rattle.std.proofs.lemmas.List.{take-append-drop}
-use Rattle.poly_specs.proofs.IntLemmas.{products, neg_mul}
-use Rattle.poly_specs.proofs.LinearLemmas.{dot-nil, dot-append, dot-scaled_row, Holds-same_point}
+use Rattle.poly_specs.proofs.IntLemmas.{neg_mul}
+use Rattle.poly_specs.proofs.LinearLemmas.{dot-nil, dot-scaled_row, Holds-same_point}
 use Rattle.poly_specs.proofs.EliminationLemmas.{AllHold-from_in, AllHold-at_in, in_map, out_map, width_in}
 use Rattle.run_specs.proofs.StageLemmas.{holds_both, holds_first, by_value}
 use Rattle.poly_specs.specs.Lists.{In, dot}
 use Rattle.poly_specs.specs.Fractions.{Fraction, SameFraction}
-use Rattle.poly_specs.specs.Rows.{Row, over, row_value, Allows, Holds, AllHold, AllWide, with_coef, SamePoint}
+use Rattle.poly_specs.specs.Rows.{Row, over, Holds, AllHold, AllWide, with_coef, SamePoint}
 use Rattle.run_specs.specs.Automaton.{never}
 use Rattle.run_specs.specs.Stages.{zeros}
 
@@ -100,7 +99,7 @@ module _ (n : ℕ) (P : ℤ → List ℤ → Type 0) where
   pub at_same_point : IsSystem n P → (d c : ℤ) (ns ms : List ℤ) → pos 0 <ℤ d → pos 0 <ℤ c → length ns ≡ n → length ms ≡ n → SamePoint (over d ns) (over c ms) → P d ns → P c ms
   at_same_point s d c ns ms hd hc ln lm e p =
       (s.exact c ms hc lm).0 (AllHold-from_in s.rows (over c ms) (λ r i.
-          Holds-same_point r (over d ns) (over c ms) hd hc e (AllHold-at_in s.rows (over d ns) ((s.exact d ns hd ln).1 p) r i)))
+      Holds-same_point r (over d ns) (over c ms) hd hc e (AllHold-at_in s.rows (over d ns) ((s.exact d ns hd ln).1 p) r i)))
 
   -- the numbers after the first k
   pub dropped : (k : ℕ) → IsSystem n P → IsSystem (k + n) (λ d ns. P d (drop k ns))
