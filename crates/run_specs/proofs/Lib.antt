@@ -4,6 +4,9 @@ pub mod PassesLemmas
 pub mod ListLemmas
 pub mod SessionLemmas
 pub mod WorldLemmas
+pub mod RunEndLemmas
+pub mod StateHistoryLemmas
+pub mod StateLemmas
 pub mod LawfulLemmas
 pub mod StageLemmas
 pub mod EndLemmas

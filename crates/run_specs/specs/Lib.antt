@@ -14,5 +14,6 @@ pub mod Keys
 pub mod Outcomes
 pub mod Openings
 pub mod SessionHistories
+pub mod StateHistories
 pub mod Sessions
 pub mod Worlds

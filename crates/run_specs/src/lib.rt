@@ -18,6 +18,7 @@ ghost use Rattle.run_specs.specs.Verdicts.{IsLawful, AreLawful, NoOverflow};
 pub mod first_runs;
 pub mod histories;
 pub mod sessions;
+pub mod states;
 pub mod worlds;
 
 /// The reply to a sample.

@@ -1,0 +1,5 @@
+use Rattle.run_specs.proofs.StateLemmas.{states_rising, states_many}
+use Rattle.run_specs.proofs.states.states_rise.Goals as goal
+
+pub returns : goal.returns
+returns c = record { rise = λ s i is h. states_rising s i is h; as_many = λ s i is h. states_many s i is h }
