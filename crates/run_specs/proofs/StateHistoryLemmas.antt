@@ -1,6 +1,6 @@
 -- The histories of a session's states: a state's rows hold exactly where runs with its history end, and a run through a dropped state has one of an earlier history.
-use Rattle.std.proofs.Common.{◌≡◌, ◌⊎◌, inl, inr, ℕ, zero, suc, ◌<◌, ◌≤◌, Bool, true, false, ◌||◌, List, [], ◌∷◌, ◌++◌, append_assoc, length, map, take, Option, Some, None, refl, sym, ◌∙◌, ap, ap₂, subst, arith, ℤ, pos, ◌<ℤ◌}
-use Rattle.std.specs.Prelude.{All, IsSomeAnd, slice_index_or}
+use Rattle.std.proofs.Common.{◌≡◌, ◌⊎◌, inl, inr, ℕ, zero, suc, ◌<◌, ◌||◌, List, [], ◌∷◌, ◌++◌, length, map, Option, Some, None, refl, sym, ◌∙◌, ap, ap₂, subst, arith}
+use Rattle.std.specs.Prelude.{IsSomeAnd, slice_index_or}
 use Rattle.std.specs.Ordering.{nat_cmp, ordering_then}
 use Rattle.std.specs.declared.cmp.Ordering.{Ordering}
 use Rattle.std.specs.declared.cmp.Ordering.TheVariants.{Less, Equal, Greater}
@@ -8,25 +8,23 @@ use Rattle.std.specs.Cmp.{nat_cmp_is}
 use Rattle.std.specs.Cmp.Lexicographic.{slice_cmp}
 use Rattle.std.proofs.lemmas.Cmp.{ranked, by_ranked, tied_itself}
 use Rattle.std.proofs.lemmas.List.{length-map, length-append, get_or-map}
-use Rattle.std.proofs.lemmas.List.Elements.{All-head, All-tail}
 use Rattle.run_specs.proofs.StageLemmas.{holds_both}
-use Rattle.run_specs.proofs.HistoryLemmas.{history_total, same_history, not_both}
+use Rattle.run_specs.proofs.HistoryLemmas.{history_total}
 use Rattle.run_specs.proofs.SessionLemmas.{last_from}
-use Rattle.run_specs.proofs.RunEndLemmas.{all_same, marked, marked-append, extended, place-append, history-extended, IsAt, IsNextGap, run-extended, before_gap, fits, run_inside, gap_start, IsKeyOf, other_duration, length_path, last_from-append, key_of}
+use Rattle.run_specs.proofs.RunEndLemmas.{all_same, marked, marked-append, extended, place-append, history-extended, IsAt, IsNextGap, run-extended, before_gap, fits, gap_start, IsKeyOf, other_duration, length_path}
 use Rattle.poly_specs.specs.Lists.{In}
-use Rattle.poly_specs.specs.Fractions.{Fraction, IsFraction, SameFraction, difference, zero_fraction}
+use Rattle.poly_specs.specs.Fractions.{Fraction, difference, zero_fraction}
 use Rattle.poly_specs.specs.Rows.{Point, Row, SamePoint, AllHold}
 use Rattle.run_specs.specs.Automaton.{Automaton, width, location_at}
-use Rattle.run_specs.specs.Logs.{Sample, IsSample, IsPassing}
-use Rattle.run_specs.specs.Runs.{GapRun, Place, Run, Continues, Follows, IsRun, path_of, end_of, end_loc, end_point, start_point, goes_unsafe}
+use Rattle.run_specs.specs.Logs.{Sample, IsPassing}
+use Rattle.run_specs.specs.Runs.{GapRun, Place, Run, Follows, IsRun, path_of, end_of, end_loc, end_point, start_point, goes_unsafe}
 use Rattle.run_specs.specs.Passes.{Fits}
 use Rattle.run_specs.specs.Histories.{History, history_of, history_cmp, IsEarlier}
 use Rattle.run_specs.specs.Keys.{State, Key, no_state, parent_at}
-use Rattle.run_specs.specs.Outcomes.{Item, Outcome, Next, Passed, MayTake, IsEnd, IsBefore, ItemsRise, AreRising, AreExact, loc_after, mark_after, IsExact}
+use Rattle.run_specs.specs.Outcomes.{Item, MayTake, IsEnd, IsBefore, ItemsRise, AreRising, AreExact, IsAccounted, loc_after, mark_after}
 use Rattle.run_specs.specs.Openings.{AreOpening, IsOpeningState, LocsRise, opening_rows}
-use Rattle.run_specs.specs.SessionHistories.{Entry, IsEntry, AreLinked, states, states_left, belief_after, has_passed}
-use Rattle.run_specs.specs.Sessions.{AreEntriesOf}
-use Rattle.run_specs.specs.StateHistories.{no_history, opening_histories, followed, item_histories, histories_left, histories_after, IsNoLater, HistoriesRiseFrom, HistoriesRise, place_after, run_end, EndsRun}
+use Rattle.run_specs.specs.SessionHistories.{states}
+use Rattle.run_specs.specs.StateHistories.{no_history, opening_histories, followed, item_histories, IsNoLater, HistoriesRiseFrom, HistoriesRise, place_after, run_end, EndsRun}
 
 -- ---- the order of histories of one length
 
@@ -185,14 +183,14 @@ no_gaps a k run r = go run.gaps r.follows
     go [] h = refl
     go (g ∷ gs) h = absurd h
 
-opening_history : State → History
+-- the history of a state at the opening
+abbrev opening_history : State → History
 opening_history x = record { start = x.loc; paths = [] }
 
 opening_followed : (a : Automaton) (k : ℕ) (x : State) (init : List Row) → StartsWith a x init → IsFollowed a k [] x (opening_history x)
-unfolding opening_history
 opening_followed a k x init w =
     let inv : List Row = (location_at a x.loc).invariant in
-    let same_loc : (run : Run) → history_of run ≡ record { start = x.loc; paths = [] } → run.start.loc ≡ x.loc = λ run e. ap (λ (h : History). h.start) e in
+    let same_loc : (run : Run) → history_of run ≡ opening_history x → run.start.loc ≡ x.loc = λ run e. ap (λ (h : History). h.start) e in
     record {
       ends = λ q at h. (
         record { start = record { loc = x.loc; point = q }; gaps = [] },
@@ -227,7 +225,7 @@ opening_rise l (x ∷ belief) r = from x belief r.1
     less : (l m : ℕ) → l < m → nat_cmp l m ≡ Less
     less l m h = sym (nat_cmp_is l m Less h)
 
-    from : (x : State) (belief : List State) → LocsRise (suc x.loc) belief → HistoriesRiseFrom (record { start = x.loc; paths = [] }) (opening_histories belief)
+    from : (x : State) (belief : List State) → LocsRise (suc x.loc) belief → HistoriesRiseFrom (opening_history x) (opening_histories belief)
     from x [] r = tt
     from x (y ∷ ys) r = (ap (λ o. ordering_then o Equal) (less x.loc y.loc (omega (arith, r.0))), from y ys r.1)
 
@@ -251,8 +249,8 @@ opening_all a k belief is run q e = go (location_at a run.start.loc).init refl e
         let s : IsSomeAnd (opening_rows a l) (λ r. IsOpeningState (width a) r x) = subst (λ j. IsSomeAnd (opening_rows a j) (λ r. IsOpeningState (width a) r x)) xl (is.each x i) in
         let t : IsOpeningState (width a) rows x = subst (λ o. IsSomeAnd o (λ r. IsOpeningState (width a) r x)) row_eq s in
         let (j, below, ex) = place_of belief x i in
-        let h_j : slice_index_or (opening_histories belief) j no_history ≡ record { start = (slice_index_or belief j no_state).loc; paths = [] } =
-        get_or-map (λ (s : State). record { start = s.loc; paths = [] }) belief j no_state no_history below in
+        let h_j : slice_index_or (opening_histories belief) j no_history ≡ opening_history (slice_index_or belief j no_state) =
+        get_or-map opening_history belief j no_state no_history below in
         let loc : l ≡ (slice_index_or belief j no_state).loc = sym (ap (λ (s : State). s.loc) ex ∙ xl) in (
           j,
           record {
@@ -265,14 +263,13 @@ opening_all a k belief is run q e = go (location_at a run.start.loc).init refl e
         )
 
 pub opening_are : (a : Automaton) (k : ℕ) (belief : List State) → AreOpening a belief → AreFollowed a k [] belief (opening_histories belief)
-unfolding opening_history
 opening_are a k belief is = record {
-  as_many = length-map belief (λ (s : State). record { start = s.loc; paths = [] });
+  as_many = length-map belief opening_history;
   rise = opening_rise 0 belief is.rise;
   each = λ j h.
       let x : State = slice_index_or belief j no_state in
       let (init, w) = starts_with a x (is.each x (in_at belief j h)) in
-      subst (λ y. IsFollowed a k [] x y) (sym (get_or-map (λ (s : State). record { start = s.loc; paths = [] }) belief j no_state no_history h)) (opening_followed a k x init w);
+      subst (λ y. IsFollowed a k [] x y) (sym (get_or-map opening_history belief j no_state no_history h)) (opening_followed a k x init w);
   all = opening_all a k belief is;
 }
 
@@ -285,7 +282,7 @@ gaps_many a k place t (s ∷ ss) [] h = absurd h
 gaps_many a k place t (s ∷ ss) (g ∷ gs) h = let r = gaps_many a k (end_of a g) s.time ss gs h.1 in omega (arith, r)
 
 -- the number of an item's state, and the item of a number
-number_of : (hs : List History) (items : List Item) (y : Item) → In y items →
+pub number_of : (hs : List History) (items : List Item) (y : Item) → In y items →
     (j : ℕ) × (j < length (states items)) × (slice_index_or (states items) j no_state ≡ y.state)
     × (slice_index_or (item_histories hs items) j no_history ≡ followed (slice_index_or hs y.parent no_history) y.path)
 number_of hs [] y h = absurd h
@@ -293,7 +290,7 @@ number_of hs (z ∷ items) y (inl e) =
     (0, omega arith, ap (λ (x : Item). x.state) (sym e), ap (λ (x : Item). followed (slice_index_or hs x.parent no_history) x.path) (sym e))
 number_of hs (z ∷ items) y (inr h) = let (j, l, e, f) = number_of hs items y h in (suc j, omega arith, e, f)
 
-item_number : (hs : List History) (items : List Item) (j : ℕ) → j < length (states items) →
+pub item_number : (hs : List History) (items : List Item) (j : ℕ) → j < length (states items) →
     (y : Item) × In y items × (slice_index_or (states items) j no_state ≡ y.state)
     × (slice_index_or (item_histories hs items) j no_history ≡ followed (slice_index_or hs y.parent no_history) y.path)
 item_number hs [] j h = absurd (omega arith)
@@ -474,6 +471,28 @@ module _ (ss : List Sample) (s : Sample) (key : Key) (items : List Item) (hs : L
         },
       )
 
+  accounted : (run : Run) (q : Point) (i : ℕ) (path : List ℕ) → i < length key.belief → IsAt key.automaton q → IsEnd key i path q →
+      (run_end key.automaton run).loc ≡ loc_after key i path → marked key.automaton run.gaps ≡ mark_after key i path →
+      IsNoLater (followed (parent_history i) path) (history_of run) → IsAccounted key items i path → (j : ℕ) × Stands key.automaton (states items) (item_histories hs items) run q j
+  accounted run q i path below at end loc mark no_later is_accounted =
+      elim is_accounted [
+        | inl (y, iy, ey, ep) ↦ (
+            let item = exact.each y iy in
+            let own : IsEnd key y.parent y.path q = subst (λ j. IsEnd key j y.path q) (sym ey) (subst (λ p. IsEnd key i p q) (sym ep) end) in
+            let own_loc : loc_after key i path ≡ loc_after key y.parent y.path = ap (λ p. loc_after key i p) (sym ep) ∙ ap (λ j. loc_after key j y.path) (sym ey) in
+            let own_mark : mark_after key i path ≡ mark_after key y.parent y.path = ap (λ p. mark_after key i p) (sym ep) ∙ ap (λ j. mark_after key j y.path) (sym ey) in
+            let own_history : followed (parent_history i) path ≡ followed (parent_history y.parent) y.path =
+            ap (λ p. followed (parent_history i) p) (sym ep) ∙ ap (λ j. followed (parent_history j) y.path) (sym ey) in
+            in_item run q y iy (loc ∙ own_loc ∙ sym item.loc) (mark ∙ own_mark ∙ sym item.mark) ((item.ends q at.positive at.sized).1 own)
+            (subst (λ h. IsNoLater h (history_of run)) own_history no_later))
+        | inr (inl none) ↦ absurd (none q end)
+        | inr (inr (y, covered)) ↦ (
+            let item = exact.each y covered.item in
+            let earlier = earlier_item y.parent y.path i path item.may_take.parent below covered.alike.before in
+            in_item run q y covered.item (loc ∙ sym covered.alike.same_loc) (mark ∙ sym covered.alike.same_mark) ((item.ends q at.positive at.sized).1 (covered.included q end))
+            (inr (earlier-no_later (followed (parent_history y.parent) y.path) (followed (parent_history i) path) (history_of run) earlier no_later)))
+      ]
+
   items_all : (run : Run) (q : Point) → EndsInside key.automaton key.jumps (ss ++ s ∷ []) run q → (j : ℕ) × Stands key.automaton (states items) (item_histories hs items) run q j
   items_all run q e =
       let a : Automaton = key.automaton in
@@ -494,23 +513,7 @@ module _ (ss : List Sample) (s : Sample) (key : Key) (items : List Item) (hs : L
       let no_later : IsNoLater (followed (parent_history i) path) (history_of run) =
       subst (λ h. IsNoLater (followed (parent_history i) path) h) (sym (ap (λ x. history_of x) run_is ∙ history-extended before g))
       (followed-no_later (parent_history i) (history_of before) path many w.no_later) in
-      elim (exact.complete i path may) [
-        | inl (y, iy, ey, ep) ↦ (
-            let item = exact.each y iy in
-            let own : IsEnd key y.parent y.path q = subst (λ j. IsEnd key j y.path q) (sym ey) (subst (λ p. IsEnd key i p q) (sym ep) end) in
-            let own_loc : loc_after key i path ≡ loc_after key y.parent y.path = ap (λ p. loc_after key i p) (sym ep) ∙ ap (λ j. loc_after key j y.path) (sym ey) in
-            let own_mark : mark_after key i path ≡ mark_after key y.parent y.path = ap (λ p. mark_after key i p) (sym ep) ∙ ap (λ j. mark_after key j y.path) (sym ey) in
-            let own_history : followed (parent_history i) path ≡ followed (parent_history y.parent) y.path =
-            ap (λ p. followed (parent_history i) p) (sym ep) ∙ ap (λ j. followed (parent_history j) y.path) (sym ey) in
-            in_item run q y iy (loc ∙ own_loc ∙ sym item.loc) (mark ∙ own_mark ∙ sym item.mark) ((item.ends q e.at.positive e.at.sized).1 own)
-            (subst (λ h. IsNoLater h (history_of run)) own_history no_later))
-        | inr (inl none) ↦ absurd (none q end)
-        | inr (inr (y, covered)) ↦ (
-            let item = exact.each y covered.item in
-            let earlier = earlier_item y.parent y.path i path item.may_take.parent w.below covered.alike.before in
-            in_item run q y covered.item (loc ∙ sym covered.alike.same_loc) (mark ∙ sym covered.alike.same_mark) ((item.ends q e.at.positive e.at.sized).1 (covered.included q end))
-            (inr (earlier-no_later (followed (parent_history y.parent) y.path) (followed (parent_history i) path) (history_of run) earlier no_later)))
-      ]
+      accounted run q i path w.below e.at end loc mark no_later (exact.complete i path may)
 
   pub items_are : AreFollowed key.automaton key.jumps (ss ++ s ∷ []) (states items) (item_histories hs items)
   items_are = record {

@@ -1,19 +1,19 @@
 -- The states of a session: where runs of its log end, in the order of their histories.
-use Rattle.std.proofs.Common.{◌≡◌, ◌⊎◌, ◌↔◌, inl, inr, ℕ, zero, suc, ◌<◌, ◌≤◌, Bool, true, false, List, [], ◌∷◌, ◌++◌, append_assoc, append-nil, length, take, Option, Some, None, refl, sym, ◌∙◌, ap, subst, arith, ℤ, pos, ◌<ℤ◌}
+use Rattle.std.proofs.Common.{◌≡◌, ◌⊎◌, ◌↔◌, inl, inr, ℕ, zero, suc, ◌<◌, ◌≤◌, Bool, true, false, List, [], ◌∷◌, ◌++◌, append_assoc, append-nil, length, take, Option, Some, None, refl, sym, ◌∙◌, ap, subst, arith, pos, ◌<ℤ◌}
 use Rattle.std.specs.Prelude.{All, IsTrue, IsFalse, slice_index_or}
 use Rattle.std.proofs.lemmas.List.{length-take-le}
 use Rattle.std.proofs.lemmas.List.Elements.{All-head, All-tail}
 use Rattle.std.proofs.lemmas.List.Folds.{Any-from_list_any, list_any-from_Any}
 use Rattle.run_specs.proofs.SessionLemmas.{last_from, entries_few}
 use Rattle.run_specs.proofs.RunEndLemmas.{all_same, marked, IsAt, run_inside, IsKeyOf, last_from-append, key_of}
-use Rattle.run_specs.proofs.StateHistoryLemmas.{rise_at, IsFollowed, Stands, EndsInside, AreFollowed, opening_are, items_are}
+use Rattle.run_specs.proofs.StateHistoryLemmas.{rise_at, Stands, AreFollowed, opening_are, items_are}
 use Rattle.poly_specs.specs.Fractions.{Fraction, IsFraction, zero_fraction}
 use Rattle.poly_specs.specs.Rows.{Point, AllHold}
 use Rattle.run_specs.specs.Automaton.{Automaton, width, location_at}
 use Rattle.run_specs.specs.Logs.{Sample, IsSample}
 use Rattle.run_specs.specs.Runs.{Run, IsRun, VisitsUnsafe, path_of, goes_unsafe}
 use Rattle.run_specs.specs.Histories.{History, history_of, IsEarlier}
-use Rattle.run_specs.specs.FirstRun.{IsAlarmRun, IsFirstRun}
+use Rattle.run_specs.specs.FirstRun.{IsFirstRun}
 use Rattle.run_specs.specs.Keys.{State, Key, no_state}
 use Rattle.run_specs.specs.Outcomes.{Item, Outcome, Next, Passed, AreExact, IsExact}
 use Rattle.run_specs.specs.Openings.{IsOpening}
@@ -108,8 +108,8 @@ reached s i is h = go s.history.opening refl is.history.opening
 
 -- ---- runs and states
 
-pub visits : (a : Automaton) (run : Run) (b : Bool) → marked a run.gaps ≡ b → IsTrue b ↔ VisitsUnsafe a run
-visits a run b e = (
+pub mark_visits : (a : Automaton) (run : Run) (b : Bool) → marked a run.gaps ≡ b → IsTrue b ↔ VisitsUnsafe a run
+mark_visits a run b e = (
   λ t. Any-from_list_any (λ g. goes_unsafe a g.start_loc (path_of g)) run.gaps (e ∙ t),
   λ v. sym e ∙ list_any-from_Any (λ g. goes_unsafe a g.start_loc (path_of g)) run.gaps v,
 )
@@ -138,7 +138,7 @@ marked_later : (a : Automaton) (k : ℕ) (log : List Sample) (belief : List Stat
     (j : ℕ) → j < length belief → IsTrue (slice_index_or belief j no_state).seen_unsafe → IsEarlier (slice_index_or hs j no_history) (history_of first) → ⊥
 marked_later a k log belief hs f first is j h t e =
     let (run, r) = run_of_state a k log belief hs f j h in
-    is.earliest run (record { run_of = r.run_of; visits = (visits a run (slice_index_or belief j no_state).seen_unsafe r.mark).0 t }) (subst (λ x. IsEarlier x (history_of first)) (sym r.along) e)
+    is.earliest run (record { run_of = r.run_of; visits = (mark_visits a run (slice_index_or belief j no_state).seen_unsafe r.mark).0 t }) (subst (λ x. IsEarlier x (history_of first)) (sym r.along) e)
 
 -- state number j is the first that is marked, and the run has its history
 pub record IsFirstMarked (belief : List State) (hs : List History) (run : Run) (j : ℕ) : Type 0 where
@@ -151,7 +151,7 @@ first_marked : (a : Automaton) (k : ℕ) (log : List Sample) (belief : List Stat
     (j : ℕ) × IsFirstMarked belief hs run j
 first_marked a k log belief hs f h run is =
     let (j, x) = state_of_run a k log belief hs f h run is.alarm.run_of in
-    let t : IsTrue (slice_index_or belief j no_state).seen_unsafe = (visits a run (slice_index_or belief j no_state).seen_unsafe x.mark).1 is.alarm.visits in
+    let t : IsTrue (slice_index_or belief j no_state).seen_unsafe = (mark_visits a run (slice_index_or belief j no_state).seen_unsafe x.mark).1 is.alarm.visits in
     let along : slice_index_or hs j no_history ≡ history_of run = same j x t x.no_later in
     (j, record { below = x.below; marked = t; along = along; first = λ e l. none e j l x.below along (slice_index_or belief e no_state).seen_unsafe refl })
   where
@@ -201,7 +201,7 @@ pub states_marks : (s : MonitorSession) (i j : ℕ) (q : Point) (run : Run) → 
 states_marks s i j q run is h hj e = elim (reached s i is h) [
   | inl f ↦ (
       let x = f.each j hj in
-      record { loc = x.loc run e.run_of e.along; mark = visits s.history.automaton run (state_at s.history i j).seen_unsafe (x.mark run e.run_of e.along) })
+      record { loc = x.loc run e.run_of e.along; mark = mark_visits s.history.automaton run (state_at s.history i j).seen_unsafe (x.mark run e.run_of e.along) })
   | inr n ↦ absurd (no_number s.history i j n hj)
 ]
 
@@ -217,9 +217,6 @@ states_many s i is h = elim (reached s i is h) [
   | inr n ↦ ap length n.no_histories ∙ sym (ap length n.no_states)
 ]
 
-passed_both : (b : Bool) → b ≡ true → b ≡ false → ⊥
-passed_both b e f = cc
-
 pub run_state : (s : MonitorSession) (i : ℕ) (run : Run) → IsMonitorSession s → 0 < i → i ≤ length s.history.gaps → has_passed (take i s.history.gaps) ≡ false →
     IsRun s.history.automaton s.history.jumps (take i s.log) run → (j : ℕ) × EndsInState s.history i run j
 run_state s i run is p h n r = elim (reached s i is h) [
@@ -229,12 +226,12 @@ run_state s i run is p h n r = elim (reached s i is h) [
         j,
         record {
           below = x.below;
-          marks = record { loc = x.loc; mark = visits a run (state_at s.history i j).seen_unsafe x.mark };
+          marks = record { loc = x.loc; mark = mark_visits a run (state_at s.history i j).seen_unsafe x.mark };
           holds = x.holds;
           no_later = x.no_later;
         },
       ))
-  | inr g ↦ absurd (passed_both (has_passed (take i s.history.gaps)) (g.passed p) n)
+  | inr g ↦ absurd (let t = g.passed p in let b : ⊥ = cc in b)
 ]
 
 pub first_run_state : (s : MonitorSession) (i : ℕ) (run : Run) → IsMonitorSession s → 0 < i → i ≤ length s.history.gaps → has_passed (take i s.history.gaps) ≡ false →
@@ -243,5 +240,5 @@ first_run_state s i run is p h n r = elim (reached s i is h) [
   | inl f ↦ (
       let (j, x) = first_marked s.history.automaton s.history.jumps (take i s.log) (states_at s.history i) (histories_at s.history i) f (some_sample s i is p h) run r in
       (j, record { below = x.below; marked = x.marked; along = x.along; first = x.first }))
-  | inr g ↦ absurd (passed_both (has_passed (take i s.history.gaps)) (g.passed p) n)
+  | inr g ↦ absurd (let t = g.passed p in let b : ⊥ = cc in b)
 ]
