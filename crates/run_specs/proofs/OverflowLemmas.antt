@@ -7,7 +7,8 @@ use Rattle.std.proofs.lemmas.List.{get_or_past}
 use Rattle.std.proofs.lemmas.List.Elements.{All-head, All-tail}
 use Rattle.run_specs.proofs.PassesLemmas.{gap_more}
 use Rattle.run_specs.proofs.EndLemmas.{wide_both}
-use Rattle.run_specs.proofs.LawfulLemmas.{all_same, in_at, in_states}
+use Rattle.run_specs.proofs.RunEndLemmas.{all_same}
+use Rattle.run_specs.proofs.StateHistoryLemmas.{in_at}
 use Rattle.run_specs.proofs.ScaledRows.{at_most-lowest, at_least-lowest}
 use Rattle.run_specs.proofs.StageWidths.{location_is, end_within, gap_wide}
 use Rattle.run_specs.proofs.GapEnds.{AllReached, IsGapCase, reached_then, gap_there}
@@ -21,12 +22,18 @@ use Rattle.run_specs.specs.Automaton.{Automaton, width, nowhere, location_at}
 use Rattle.run_specs.specs.WellFormed.{IsWellFormed}
 use Rattle.run_specs.specs.Logs.{Sample}
 use Rattle.run_specs.specs.Runs.{path_of, end_point, start_point}
-use Rattle.run_specs.specs.Stages.{Stage, SomeReachedPasses, rows_after, cut, opening_stage, seen_rows, below, sample_stage, path_rows, path_stages, gap_start, gap_rows, gap_stages, gaps_stages}
+use Rattle.poly_specs.specs.Columns.{cut}
+use Rattle.run_specs.specs.Stages.{Stage, SomeReachedPasses, rows_after, opening_stage, seen_rows, below, sample_stage, path_rows, path_stages, gap_start, gap_rows, gap_stages, gaps_stages}
 use Rattle.run_specs.specs.Passes.{Fits, AllFit, LogPasses, history_stages}
 use Rattle.run_specs.specs.Keys.{State, Key, IsKey, no_state, parent_at}
 use Rattle.run_specs.specs.Outcomes.{Item, IsItem, IsEnd, AreExact, KeyPasses}
 use Rattle.run_specs.specs.Openings.{AreOpening, IsOpeningState}
 use Rattle.run_specs.specs.SessionHistories.{states}
+
+in_states : (items : List Item) (x : State) → In x (states items) → (y : Item) × In y items × (x ≡ y.state)
+in_states [] x h = absurd h
+in_states (y ∷ items) x (inl e) = (y, inl refl, e)
+in_states (y ∷ items) x (inr h) = let (z, i, e) = in_states items x h in (z, inr i, e)
 
 -- ---- a gap's length in lowest terms has the stages of the length
 

@@ -16,7 +16,8 @@ use Rattle.run_specs.specs.Automaton.{Automaton, nowhere, no_transition, width, 
 use Rattle.run_specs.specs.WellFormed.{IsLocation, IsTransition, IsWellFormed}
 use Rattle.run_specs.specs.Runs.{end_loc}
 use Rattle.run_specs.specs.Passes.{Fits}
-use Rattle.run_specs.specs.Stages.{zeros, cut, rows_after, row_of, gap_start, leg_stage, leg_rows, jump_stage, jump_rows, sample_stage, sample_rows, seen_rows, seen_exactly, below, path_rows, gap_rows}
+use Rattle.poly_specs.specs.Columns.{cut}
+use Rattle.run_specs.specs.Stages.{zeros, rows_after, row_of, gap_start, leg_stage, leg_rows, jump_stage, jump_rows, sample_stage, sample_rows, seen_rows, seen_exactly, below, path_rows, gap_rows}
 
 each_wide : (w : ℕ) (columns : List ℕ) (rows : List Row) → AllWide w rows → AllWide w (eliminated_each columns rows)
 each_wide w [] rows wide = wide
