@@ -6,7 +6,7 @@ use Rattle.std.proofs.lemmas.Int.{ints, unsigned_abs-mul}
 use Rattle.std.proofs.lemmas.List.{length-map, drop_more, drop_all}
 use Rattle.std.proofs.lemmas.List.Elements.{All-map, All-weaker}
 use Rattle.std.proofs.lemmas.Nat.Gcd.{le_of_dvd, dvd_refl}
-use Rattle.poly_specs.proofs.CombinationLemmas.{gcd-IsGcd, times-divided, divisor-pos}
+use Rattle.poly_specs.proofs.CombinationLemmas.{exact, gcd-IsGcd, times-divided, divisor-pos}
 use Rattle.poly_specs.proofs.GcdLemmas.{gcd-is, gcd-zero, gcd-scaled}
 use Rattle.poly_specs.specs.Bits.{FitsBits}
 use Rattle.poly_specs.specs.Elimination.{gcd, numbers, times, divisor, divided}
@@ -30,7 +30,7 @@ pub divisor-mark : (cs : List ℤ) (c : ℤ) (s t : Bool) → divisor (record { 
 unfolding divisor
 divisor-mark cs c s t = refl
 
-shared-numbers : (cs : List ℤ) (c : ℤ) → shared 0 (cs ++ c ∷ []) ≡ gcd (shared 0 cs) (unsigned_abs c)
+pub shared-numbers : (cs : List ℤ) (c : ℤ) → shared 0 (cs ++ c ∷ []) ≡ gcd (shared 0 cs) (unsigned_abs c)
 shared-numbers cs c = shared-append 0 cs (c ∷ [])
 
 -- ---- a loop over the coefficients: g is shared by those before column i
@@ -124,6 +124,17 @@ all_once (z ∷ zs) = let e : pos 1 *ℤ z ≡ z = omega (arith, ints) in let re
 
 times-one : (r : Row) → times (pos 1) r ≡ r
 times-one r = let e = all_once r.coef in let f : pos 1 *ℤ r.cst ≡ r.cst = omega (arith, ints) in λ i. record { coef = e i; cst = f i; strict = r.strict }
+
+-- nothing changes where the divisor is 1
+pub quotients-by_one : (f : ℤ) (zs : List ℤ) → f ≡ pos 1 → map (λ z. int_div z f) zs ≡ zs
+quotients-by_one f zs e = ap (λ g. map (λ z. int_div z g) zs) e ∙ go zs
+  where
+    go : (zs : List ℤ) → map (λ z. int_div z (pos 1)) zs ≡ zs
+    go [] = refl
+    go (z ∷ zs) =
+        let same : pos 1 *ℤ int_div z (pos 1) ≡ z = exact 1 z (one-dvd (unsigned_abs z)) in
+        let here : int_div z (pos 1) ≡ z = omega (arith, ints, same) in
+        let rest = go zs in cc
 
 -- a row is divided exactly where its divisor is 1
 pub divided-from_one : (r : Row) → divisor r ≡ 1 → divided r ≡ r

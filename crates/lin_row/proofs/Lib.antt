@@ -1,1 +1,5 @@
+pub mod FitLemmas
 pub mod DivisorLemmas
+pub mod EvaluationLemmas
+pub mod MixLemmas
+pub mod ColumnLemmas

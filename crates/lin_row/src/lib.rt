@@ -3,6 +3,9 @@
 //! No call takes memory: a row has at most 14 columns, which lie in the row itself.
 #![tactic(auto)]
 
+mod columns;
+mod combining;
+mod evaluation;
 mod numbers;
 mod points;
 mod rows;

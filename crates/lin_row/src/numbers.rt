@@ -43,6 +43,23 @@ pub fn kept_sum(a: i128, b: i128) -> Option<i128>
     Some(sum)
 }
 
+/// The sum with one more product, where neither passes 128 bits.
+pub fn add_product(sum: i128, a: i128, b: i128) -> Option<i128>
+    ensures { SomeIff result (FitsBits (a *ℤ b) × FitsBits (sum +ℤ a *ℤ b)) (sum +ℤ a *ℤ b) }
+{
+    let product = kept_product(a, b)?;
+    kept_sum(sum, product)
+}
+
+/// The sum of two products, where none of the three passes 128 bits.
+pub fn sum_of_two(p: i128, a: i128, q: i128, b: i128) -> Option<i128>
+    ensures { SomeIff result (FitsBits (p *ℤ a) × FitsBits (q *ℤ b) × FitsBits (p *ℤ a +ℤ q *ℤ b)) (p *ℤ a +ℤ q *ℤ b) }
+{
+    let left = kept_product(p, a)?;
+    let right = kept_product(q, b)?;
+    kept_sum(left, right)
+}
+
 /// The greatest common divisor, by Euclid's algorithm.
 pub fn greatest_divisor(a: u128, b: u128) -> u128
     ensures { result ≡ gcd a b }
@@ -55,6 +72,15 @@ pub fn greatest_divisor(a: u128, b: u128) -> u128
         y = rest;
     }
     x
+}
+
+/// The numbers, in the row's own places.
+pub fn inline_copy(alloc: Global, numbers: &[i128]) -> SmallVec<i128, 14>
+    requires { length numbers.now ≤ 14 }
+    ensures items { result.items ≡ numbers.now }
+    ensures inline { result.capacity ≡ 14 }
+{
+    SmallVec::from_slice(alloc, numbers).unwrap()
 }
 
 /// A number divided by one that divides it.
@@ -72,6 +98,9 @@ pub fn quotients(alloc: Global, numbers: &[i128], factor: i128) -> SmallVec<i128
     ensures items { result.items ≡ map (λ c. int_div c factor) numbers.now }
     ensures inline { result.capacity ≡ 14 }
 {
+    if factor == 1 {
+        return inline_copy(alloc, numbers);
+    }
     let mut divided = SmallVec::new(alloc);
     for number in numbers {
         divided.push_reserved(quotient(*number, factor));

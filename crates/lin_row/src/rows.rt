@@ -6,8 +6,7 @@ ghost use Rattle.poly_specs.specs.Elimination.{divided};
 ghost use Rattle.poly_specs.specs.KeptRows.{IsKeptRow};
 
 use crate::Row;
-use crate::numbers::{quotient, quotients, row_divisor};
-use smallvec::SmallVec;
+use crate::numbers::{inline_copy, quotient, quotients, row_divisor};
 use std::alloc::Global;
 
 impl Row {
@@ -65,7 +64,7 @@ impl Row {
         ensures { result ≡ self.now }
     {
         Row {
-            coef: SmallVec::from_slice(*self.coef.allocator(), self.coef.as_slice()).unwrap(),
+            coef: inline_copy(*self.coef.allocator(), self.coef.as_slice()),
             cst: self.cst,
             strict: self.strict,
         }
