@@ -1,2 +1,5 @@
 pub mod OrderLemmas
 pub mod PartLemmas
+pub mod RangeLemmas
+pub mod DigitLemmas
+pub mod DecimalLemmas

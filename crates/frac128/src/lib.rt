@@ -5,6 +5,8 @@
 
 mod numbers;
 mod order;
+mod read;
+mod write;
 
 ghost use Rattle.std.specs.Prelude.{◌≡◌, ◌↔◌, pos, ◌<ℤ◌, SomeIff, IsSome, IfSome};
 ghost use Rattle.poly_specs.specs.Fractions.{sum_of, difference, product_of, opposite, order_of};
@@ -14,6 +16,7 @@ ghost use Rattle.frac128.specs.Parts.{Makes};
 
 use crate::numbers::{product_over, shared_factor, sum_over, without_factor};
 use crate::order::compare_signed;
+pub use number_specs::NumFault;
 use std::cmp::Ordering;
 use std::marker::Model;
 
