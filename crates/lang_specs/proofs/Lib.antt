@@ -1,0 +1,4 @@
+pub mod ListLemmas
+pub mod FaultLemmas
+pub mod CanonicalLemmas
+pub mod ExampleTokens

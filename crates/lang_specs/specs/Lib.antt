@@ -1,0 +1,12 @@
+pub mod Words
+pub mod Tokens
+pub mod Lines
+pub mod Marks
+pub mod Trees
+pub mod Expressions
+pub mod Grammar
+pub mod Limits
+pub mod FirstFault
+pub mod Canonical
+pub mod SameTrees
+pub mod Examples

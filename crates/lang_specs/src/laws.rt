@@ -1,0 +1,28 @@
+//! What holds of first faults and of canonical texts.
+
+ghost use Rattle.std.specs.Prelude.{◌≡◌, ℕ, List, ◌++◌};
+ghost use Rattle.lang_specs.specs.Marks.{Lined};
+ghost use Rattle.lang_specs.specs.Trees.{Tree};
+ghost use Rattle.lang_specs.specs.FirstFault.{IsSpelling, IsViable, Fault, IsFirstFault};
+ghost use Rattle.lang_specs.specs.Canonical.{canonical_text};
+ghost use Rattle.lang_specs.specs.SameTrees.{SameTrees};
+
+/// Tokens that can go on to a text of models begin with such tokens only.
+pub fn beginnings_are_viable()
+    ensures { (front rest : List Lined) → IsViable (front ++ rest) → IsViable front }
+{}
+
+/// A text has at most one first fault.
+pub fn one_first_fault()
+    ensures { (text : List ℕ) (f g : Fault) → IsFirstFault text f → IsFirstFault text g → f ≡ g }
+{}
+
+/// A text that spells trees has no first fault.
+pub fn no_fault_beside_a_spelling()
+    ensures { (text : List ℕ) (trees : List Tree) (f : Fault) → IsSpelling text trees → IsFirstFault text f → ⊥ }
+{}
+
+/// Trees that are the same but for their lines have the same canonical text.
+pub fn one_canonical_text()
+    ensures { (trees others : List Tree) → SameTrees trees others → canonical_text trees ≡ canonical_text others }
+{}
