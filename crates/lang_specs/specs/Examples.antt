@@ -1,5 +1,5 @@
 -- A small model, and tokens as they are shown in examples.
-use Rattle.std.specs.Prelude.{ℕ, true, false, pos, negsuc, ℤ, List, [], ◌∷◌, ◌++◌, map, Some, None, codes}
+use Rattle.std.specs.Prelude.{ℕ, true, false, replicate, pos, negsuc, ℤ, List, [], ◌∷◌, ◌++◌, map, Some, None, codes}
 use Rattle.std.specs.List.{flat_map}
 use Rattle.poly_specs.specs.Fractions.{Fraction}
 use Rattle.lang_specs.specs.declared.Kind.{Kind}
@@ -210,3 +210,12 @@ narrow_printed = text_of (
     ∷ codes "trans only -> only as on"
     ∷ codes "end"
     ∷ [])
+
+-- ---- texts that are none
+
+-- a name of 33 bytes
+abbrev pub long_name : List ℕ
+long_name = replicate 33 65
+
+abbrev pub long_name_text : List ℕ
+long_name_text = codes "lha 1\nautomaton " ++ long_name

@@ -3,11 +3,12 @@
 ghost use Rattle.std.specs.Prelude.{◌≡◌, [], ◌∷◌, map, codes};
 ghost use Rattle.run_specs.specs.Names.{keywords};
 ghost use Rattle.lang_specs.specs.declared.Kind.TheVariants.{Lha, Name, Number, Trans, As, When, End, Comma, Open, Close, AtMost, AtLeast, Less, Greater, Equal, Minus, Arrow, EndLine, EndText, Other};
+ghost use Rattle.lang_specs.specs.declared.Which.TheVariants.{NameBytes};
 ghost use Rattle.lang_specs.specs.Words.{spelled, keyword_kinds};
 ghost use Rattle.lang_specs.specs.Limits.{row_count};
-ghost use Rattle.lang_specs.specs.FirstFault.{IsSpelling};
+ghost use Rattle.lang_specs.specs.FirstFault.{IsSpelling, SyntaxAt, LimitAt, IsFirstFault};
 ghost use Rattle.lang_specs.specs.Canonical.{canonical_text};
-ghost use Rattle.lang_specs.specs.Examples.{at, seen, in_line, seen_in, tank, tank_text, tank_printed, narrow, narrow_printed, two_rows, starts};
+ghost use Rattle.lang_specs.specs.Examples.{at, seen, in_line, seen_in, tank, tank_text, tank_printed, narrow, narrow_printed, two_rows, starts, long_name_text};
 
 /// The keywords are the words that no name may be.
 pub fn keywords_are_spelled()
@@ -50,4 +51,24 @@ pub fn rows_are_counted()
 /// Numbers are printed in lowest terms, a variable alone where its number is 1, a leading `-` close to its term; an empty list of rows is `true`, and an empty guard and no acts are left out.
 pub fn some_canonical_texts()
     ensures { (canonical_text (tank ∷ []) ≡ tank_printed) × (canonical_text (narrow ∷ []) ≡ narrow_printed) }
+{}
+
+/// A text with a comment, an empty line, free spacing and numbers in any terms spells its tree.
+pub fn a_spelling()
+    ensures { IsSpelling tank_text (tank ∷ []) }
+{}
+
+/// An empty text is at fault in line 1, column 1.
+pub fn an_empty_text()
+    ensures { IsFirstFault [] (SyntaxAt 1 1) }
+{}
+
+/// The version is spelled `1` or `2`, and not otherwise.
+pub fn an_odd_version()
+    ensures { IsFirstFault (codes "lha 01") (SyntaxAt 1 5) }
+{}
+
+/// A name of 33 bytes passes a limit.
+pub fn a_long_name()
+    ensures { IsFirstFault long_name_text (LimitAt 2 NameBytes) }
 {}
