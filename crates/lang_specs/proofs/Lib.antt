@@ -4,3 +4,8 @@ pub mod CanonicalLemmas
 pub mod ExampleTokens
 pub mod ExampleSpelling
 pub mod ExampleFaults
+pub mod SplitLemmas
+pub mod ItemSplits
+pub mod ListSplits
+pub mod LineSplits
+pub mod TextSplits

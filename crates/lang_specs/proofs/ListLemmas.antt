@@ -11,10 +11,10 @@ abbrev pub CutAlike : {A : Type 0} (xs ys : List A) (x y : A) → Type 0
 CutAlike xs ys x y = ((xs ≡ ys) × (x ≡ y)) ⊎ (Begins (xs ++ x ∷ []) ys ⊎ Begins (ys ++ y ∷ []) xs)
 
 module _ {A : Type 0} where
-  head_is : (x y : A) (xs ys : List A) → x ∷ xs ≡ y ∷ ys → x ≡ y
+  pub head_is : (x y : A) (xs ys : List A) → x ∷ xs ≡ y ∷ ys → x ≡ y
   head_is x y xs ys e = cc
 
-  tail_is : (x y : A) (xs ys : List A) → x ∷ xs ≡ y ∷ ys → xs ≡ ys
+  pub tail_is : (x y : A) (xs ys : List A) → x ∷ xs ≡ y ∷ ys → xs ≡ ys
   tail_is x y xs ys e = cc
 
   with_head : (w z : A) (xs ys : List A) (x y : A) → w ≡ z → CutAlike xs ys x y → CutAlike (w ∷ xs) (z ∷ ys) x y

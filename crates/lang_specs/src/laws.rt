@@ -22,6 +22,11 @@ pub fn no_fault_beside_a_spelling()
     ensures { (text : List ℕ) (trees : List Tree) (f : Fault) → IsSpelling text trees → IsFirstFault text f → ⊥ }
 {}
 
+/// A text spells at most one list of trees.
+pub fn one_spelling()
+    ensures { (text : List ℕ) (trees others : List Tree) → IsSpelling text trees → IsSpelling text others → trees ≡ others }
+{}
+
 /// Trees that are the same but for their lines have the same canonical text.
 pub fn one_canonical_text()
     ensures { (trees others : List Tree) → SameTrees trees others → canonical_text trees ≡ canonical_text others }
