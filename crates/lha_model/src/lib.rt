@@ -3,9 +3,14 @@
 //! What a contract sees of each is the record of the definitions in `run_specs`.
 #![tactic(auto)]
 
+mod automata;
+mod boxes;
 mod logs;
 mod names;
+mod places;
 mod sequences;
 
+pub use automata::Automaton;
 pub use logs::{Log, Sample};
 pub use names::Name;
+pub use places::{Loc, Trans};
