@@ -5,6 +5,7 @@
 
 mod automata;
 mod boxes;
+pub mod equality;
 mod logs;
 mod names;
 mod places;
@@ -14,3 +15,6 @@ pub use automata::Automaton;
 pub use logs::{Log, Sample};
 pub use names::Name;
 pub use places::{Loc, Trans};
+
+#[cfg(test)]
+mod tests;
