@@ -18,9 +18,9 @@ use std::marker::Model;
 
 /// A linear hybrid automaton within its limits.
 ///
-/// It has 1 to 6 variables, 1 to 32 locations and at most 128 transitions; a tolerance of at
-/// least 0 for each variable; rows of the widths that their places ask for; and for each
-/// variable, in each location, the two rows that bound its slope.
+/// It has 1 to 6 variables, 1 to 32 locations and at most 128 transitions, each between two of
+/// its locations; a tolerance of at least 0 for each variable; rows of the widths that their
+/// places ask for; and in each location, for each variable, the two rows that bound its slope.
 #[derive(Debug, PartialEq, Eq, Hash, Drop)]
 pub struct Automaton {
     name: Name,
@@ -59,7 +59,7 @@ fn are_counts(vars: usize, locs: usize, trans: usize) -> bool
         && trans <= MOST_TRANSITIONS
 }
 
-/// Shows that names are names, as their type keeps it.
+/// Shows of each name that it is one, which its type keeps and a reader tells.
 fn show_names(names: &[Name])
     ensures { All (λ x. IsTrue (is_name x)) names.now }
 {
@@ -97,6 +97,7 @@ fn is_location(loc: &Loc, m: usize) -> bool
     requires { m ≤ 6 }
     ensures { IsTrue result ↔ IsLocation m loc.now }
 {
+    // The reader tells that the name is one.
     let _ = loc.name().bytes();
     is_start(loc.init(), m) && are_wide(loc.inv(), m) && are_slopes(loc.flow(), m)
 }
@@ -114,6 +115,7 @@ fn is_transition(e: &Trans, m: usize, n: usize) -> bool
     requires { m ≤ 6 }
     ensures { IsTrue result ↔ IsTransition m n e.now }
 {
+    // The reader tells that the label is a name.
     let _ = e.label().bytes();
     usize::from(e.from()) < n && usize::from(e.to()) < n && are_wide(e.rel(), m + m)
 }
@@ -130,6 +132,7 @@ fn are_transitions(trans: &[Trans], m: usize, n: usize) -> bool
 fn is_well_formed(name: &Name, vars: &[Name], obs: &[Frac], locs: &[Loc], trans: &[Trans]) -> bool
     ensures { IsTrue result ↔ IsWellFormed (record { name = name.now; variables = vars.now; obs = obs.now; locations = locs.now; transitions = trans.now }) }
 {
+    // The readers tell that the names are names.
     let _ = name.bytes();
     show_names(vars);
     let (m, n) = (vars.len(), locs.len());

@@ -1,3 +1,5 @@
+//! Names and automata within their limits, and just past them.
+
 ghost use Rattle.std.specs.Prelude.{◌<◌};
 ghost use Rattle.poly_specs.specs.Bits.{FitsBits};
 
