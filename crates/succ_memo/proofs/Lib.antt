@@ -1,0 +1,3 @@
+mod CacheEntries
+mod ShownPairs
+mod StoredMemo
