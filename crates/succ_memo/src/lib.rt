@@ -12,6 +12,3 @@ mod storage;
 pub use filler::{Fill, Filler};
 pub use memo::{Look, MemoState, PutFault, Ticket, Totals};
 pub use relation::{Held, Relation};
-
-#[cfg(test)]
-mod tests;

@@ -180,3 +180,6 @@ impl<R: Relation> MemoState<R> {
         self.totals
     }
 }
+
+#[cfg(test)]
+mod tests;
