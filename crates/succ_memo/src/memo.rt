@@ -2,7 +2,8 @@
 ghost use Rattle.std.specs.Prelude.{◌≡◌, ◌≤◌, [], Some, None, IfOk, IfErr, OnOk, OnErr, is_some};
 ghost use Rattle.std.specs.Arc.{arc_value};
 ghost use Rattle.std.specs.Map.{lookup_entry};
-ghost use Rattle.succ_memo.specs.Memo.{IsMemo, memo_of, no_totals, memo_after_look, memo_after_put, memo_after_give_up};
+ghost use Rattle.succ_memo.specs.Memo.{IsMemo, memo_of, no_totals};
+ghost use Rattle.succ_memo.specs.Memo.{memo_after_look, memo_after_put, memo_after_give_up};
 
 use crate::relation::{Held, Relation};
 use crate::storage::{Cache, empty_cache, find, store};
@@ -60,17 +61,14 @@ pub struct MemoState<R: Relation> {
 }
 
 impl<R: Relation> Model for MemoState<R> {
-    ghost use Rattle.std.specs.Option.{option_map};
-    ghost use Rattle.std.specs.NonZero.{non_zero_usize_get};
-    ghost use Rattle.std.specs.Arc.{arc_value};
     ghost use Rattle.succ_memo.specs.Memo.{Memo, memo_of};
-    ghost use Rattle.succ_memo.specs.Stored.{cache_pairs, IsStoredIn};
+    ghost use Rattle.succ_memo.specs.Stored.{bound_of, cache_pairs, IsStoredIn};
 
     ghost Value = { Memo R.Key R.Val };
 
-    ghost view = { λ s. memo_of (cache_pairs arc_value s.cache) (option_map non_zero_usize_get s.most) s.totals };
+    ghost view = { λ s. memo_of (cache_pairs s.cache) (bound_of s.most) s.totals };
 
-    ghost invariant = { λ s. IsStoredIn R.Key.eq R.holds arc_value (option_map non_zero_usize_get s.most) s.cache };
+    ghost invariant = { λ s. IsStoredIn R.Key.eq R.holds s.most s.cache };
 }
 
 impl<R: Relation> MemoState<R> {
@@ -87,7 +85,7 @@ impl<R: Relation> MemoState<R> {
         }
     }
 
-    /// An empty memo of at most `most` entries.
+    /// An empty memo of at most `most` entries, which is 1 or more.
     ///
     /// # Errors
     ///
@@ -110,8 +108,10 @@ impl<R: Relation> MemoState<R> {
     ///
     /// Want of memory, as an entry is shared once more. Entries, their order and counts stay.
     pub fn look(&mut self, key: &R::Key) -> Result<Look<R>, AllocError>
-        ensures found { IfOk result (λ look. found_pair look ≡ lookup_entry (R.Key.eq key.now) self.old.entries) }
-        ensures memo { IfOk result (λ look. self.new ≡ memo_after_look (R.Key.eq key.now) (found_pair look) self.old) }
+        ensures found { IfOk result (λ look.
+            found_pair look ≡ lookup_entry (R.Key.eq key.now) self.old.entries) }
+        ensures memo { IfOk result (λ look.
+            self.new ≡ memo_after_look (R.Key.eq key.now) (found_pair look) self.old) }
         ensures err { OnErr result (self.new ≡ self.old) }
         ensures was_valid { IsMemo R.Key.eq R.holds self.old }
         ensures valid { IsMemo R.Key.eq R.holds self.new }

@@ -7,8 +7,10 @@ use std::marker::Model;
 
 /// Which values are right for a key.
 pub trait Relation {
+    /// What a value is asked for. Equal keys have one entry in a memo.
     type Key: Eq + Hash + Drop;
 
+    /// What may be right for a key.
     type Val: Drop;
 
     // The value is right for the key.

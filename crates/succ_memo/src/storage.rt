@@ -3,10 +3,9 @@ ghost use Rattle.std.specs.Prelude.{◌≡◌, [], ◌∷◌, None, IfOk, IfErr,
 ghost use Rattle.std.specs.Arc.{arc_value};
 ghost use Rattle.std.specs.Map.{lookup_entry};
 ghost use Rattle.std.specs.Option.{option_map};
-ghost use Rattle.std.specs.NonZero.{non_zero_usize_get};
 ghost use Rattle.lru.specs.LruCache.{lru_cache, promoted};
 ghost use Rattle.succ_memo.specs.Memo.{entries_kept, entries_after_put};
-ghost use Rattle.succ_memo.specs.Stored.{shown_pairs, cache_pairs, IsStored, IsStoredIn};
+ghost use Rattle.succ_memo.specs.Stored.{bound_of, shown_pairs, cache_pairs, IsStored, IsStoredIn};
 
 use crate::relation::{Held, Relation};
 use lru::LruCache;
@@ -23,7 +22,7 @@ pub(crate) fn empty_cache<R: Relation>(
     most: Option<NonZeroUsize>,
 ) -> Result<Cache<R>, AllocError>
     ensures empty { IfOk result (λ cache. cache.entries ≡ []) }
-    ensures stored { IfOk result (IsStored R.Key.eq R.holds arc_value (option_map non_zero_usize_get most)) }
+    ensures stored { IfOk result (IsStored R.Key.eq R.holds most) }
 {
     let cache = LruCache::sparse(alloc, most.unwrap_or(NonZeroUsize::MAX))?;
     // What a cache keeps of its own is known once it is read.
@@ -37,12 +36,13 @@ fn find_in<R: Relation>(
     most: Option<NonZeroUsize>,
     key: &R::Key,
 ) -> Result<Option<Arc<Held<R>>>, AllocError>
-    requires { IsStored R.Key.eq R.holds arc_value (option_map non_zero_usize_get most) cache.old }
+    requires { IsStored R.Key.eq R.holds most cache.old }
     ensures found { IfOk result (λ entry. option_map arc_value entry
-        ≡ lookup_entry (R.Key.eq key.now) (shown_pairs arc_value cache.old.entries)) }
-    ensures moved { OnOk result (cache.new ≡ lru_cache (promoted (R.Key.eq key.now) cache.old.entries) cache.old.cap) }
+        ≡ lookup_entry (R.Key.eq key.now) (shown_pairs cache.old.entries)) }
+    ensures moved { OnOk result (cache.new
+        ≡ lru_cache (promoted (R.Key.eq key.now) cache.old.entries) cache.old.cap) }
     ensures err { OnErr result (cache.new ≡ cache.old) }
-    ensures stored { IsStored R.Key.eq R.holds arc_value (option_map non_zero_usize_get most) cache.new }
+    ensures stored { IsStored R.Key.eq R.holds most cache.new }
 {
     let Some(entry) = cache.peek(key) else {
         return Ok(None);
@@ -60,13 +60,13 @@ pub(crate) fn find<R: Relation>(
     most: Option<NonZeroUsize>,
     key: &R::Key,
 ) -> Result<Option<Arc<Held<R>>>, AllocError>
-    requires { IsStoredIn R.Key.eq R.holds arc_value (option_map non_zero_usize_get most) cache.old }
+    requires { IsStoredIn R.Key.eq R.holds most cache.old }
     ensures found { IfOk result (λ entry. option_map arc_value entry
-        ≡ lookup_entry (R.Key.eq key.now) (cache_pairs arc_value cache.old)) }
-    ensures moved { OnOk result (cache_pairs arc_value cache.new
-        ≡ promoted (R.Key.eq key.now) (cache_pairs arc_value cache.old)) }
-    ensures err { OnErr result (cache_pairs arc_value cache.new ≡ cache_pairs arc_value cache.old) }
-    ensures stored { IsStoredIn R.Key.eq R.holds arc_value (option_map non_zero_usize_get most) cache.new }
+        ≡ lookup_entry (R.Key.eq key.now) (cache_pairs cache.old)) }
+    ensures moved { OnOk result (cache_pairs cache.new
+        ≡ promoted (R.Key.eq key.now) (cache_pairs cache.old)) }
+    ensures err { OnErr result (cache_pairs cache.new ≡ cache_pairs cache.old) }
+    ensures stored { IsStoredIn R.Key.eq R.holds most cache.new }
 {
     match cache {
         Some(cache) => find_in(cache, most, key),
@@ -81,12 +81,12 @@ fn put_first<R: Relation>(
     alloc: Global,
     entry: Arc<Held<R>>,
 ) -> Result<(), Arc<Held<R>>>
-    requires stored { IsStored R.Key.eq R.holds arc_value (option_map non_zero_usize_get most) cache.old }
+    requires stored { IsStored R.Key.eq R.holds most cache.old }
     requires absent { lookup_entry (R.Key.eq (arc_value entry).0) cache.old.entries ≡ None }
-    ensures ok { OnOk result (shown_pairs arc_value cache.new.entries
-        ≡ arc_value entry ∷ entries_kept (option_map non_zero_usize_get most) (shown_pairs arc_value cache.old.entries)) }
+    ensures ok { OnOk result (shown_pairs cache.new.entries
+        ≡ arc_value entry ∷ entries_kept (bound_of most) (shown_pairs cache.old.entries)) }
     ensures err { IfErr result (λ back. (cache.new ≡ cache.old) × (back ≡ entry)) }
-    ensures stored { IsStored R.Key.eq R.holds arc_value (option_map non_zero_usize_get most) cache.new }
+    ensures stored { IsStored R.Key.eq R.holds most cache.new }
 {
     let Ok(key) = R::copy_key(alloc, entry.key()) else {
         return Err(entry);
@@ -108,11 +108,12 @@ pub(crate) fn store<R: Relation>(
     alloc: Global,
     entry: Arc<Held<R>>,
 ) -> Result<(), Arc<Held<R>>>
-    requires { IsStoredIn R.Key.eq R.holds arc_value (option_map non_zero_usize_get most) cache.old }
-    ensures ok { OnOk result (cache_pairs arc_value cache.new
-        ≡ entries_after_put R.Key.eq (option_map non_zero_usize_get most) (cache_pairs arc_value cache.old) (arc_value entry)) }
-    ensures err { IfErr result (λ back. (cache_pairs arc_value cache.new ≡ cache_pairs arc_value cache.old) × (back ≡ entry)) }
-    ensures stored { IsStoredIn R.Key.eq R.holds arc_value (option_map non_zero_usize_get most) cache.new }
+    requires { IsStoredIn R.Key.eq R.holds most cache.old }
+    ensures ok { OnOk result (cache_pairs cache.new
+        ≡ entries_after_put R.Key.eq (bound_of most) (cache_pairs cache.old) (arc_value entry)) }
+    ensures err { IfErr result (λ back.
+        (cache_pairs cache.new ≡ cache_pairs cache.old) × (back ≡ entry)) }
+    ensures stored { IsStoredIn R.Key.eq R.holds most cache.new }
 {
     match cache {
         Some(cache) => {

@@ -49,7 +49,7 @@ fn put_square(
     }
 }
 
-// Looks, and answers the value that was found. After a miss it puts the square, or gives the ticket up.
+// The value that a look finds. After a miss the square is put, or the ticket given up.
 fn visit(
     alloc: Global,
     memo: &mut MemoState<Square>,
@@ -84,7 +84,7 @@ fn keys_in_order(alloc: Global, memo: &MemoState<Square>) -> Result<Vec<u64>, Al
 fn a_full_memo_drops_the_least_recently_used(rt: HostRuntime) -> Result<(), Fail> {
     let alloc = rt.alloc();
     let mut memo = MemoState::bounded(alloc, 2)?;
-    // A key, whether its square is put after a miss, what the look finds, and the keys in order afterwards.
+    // A key, whether its square is put after a miss, what is found, and the keys in order then.
     let rows: [(u64, bool, Option<u128>, &[u64]); 6] = [
         (3, true, None, &[3]),
         (4, true, None, &[4, 3]),

@@ -10,17 +10,17 @@ returns-then-contains-clause-ok g c =
     let eq = g.R.Key.PartialEq.eq in
     let k : c.key.result.now ≡ (arc_value c.args.entry).0 = rw (c.key.ensures.value, c.deref.ensures) refl in
     let t : is_some (lookup (eq (arc_value c.args.entry).0) c.in-Some.cache.entries) ≡ true = rw (← k) (sym c.contains.ensures ∙ c.if-contains.true) in
-    rw c.in-Some.is (sym (put-present arc_value (eq (arc_value c.args.entry).0) c.in-Some.cache.entries (shown_pairs arc_value c.in-Some.cache.entries) _ t))
+    rw c.in-Some.is (sym (put-present (eq (arc_value c.args.entry).0) c.in-Some.cache.entries (shown_pairs c.in-Some.cache.entries) _ t))
 
 pub put_first-requires-clause-absent : goal.put_first-requires-clause-absent
 put_first-requires-clause-absent g c =
     let eq = g.R.Key.PartialEq.eq in
     let k : c.key.result.now ≡ (arc_value c.args.entry).0 = rw (c.key.ensures.value, c.deref.ensures) refl in
-    entry-absent arc_value (eq (arc_value c.args.entry).0) c.in-Some.cache.entries (rw (← k) (sym c.contains.ensures ∙ c.if-contains.false))
+    entry-absent (eq (arc_value c.args.entry).0) c.in-Some.cache.entries (rw (← k) (sym c.contains.ensures ∙ c.if-contains.false))
 
 pub returns-else-contains-clause-ok : goal.returns-else-contains-clause-ok
 returns-else-contains-clause-ok g c =
     let eq = g.R.Key.PartialEq.eq in
     let k : c.key.result.now ≡ (arc_value c.args.entry).0 = rw (c.key.ensures.value, c.deref.ensures) refl in
-    let absent : lookup_entry (eq (arc_value c.args.entry).0) c.in-Some.cache.entries ≡ None = entry-absent arc_value (eq (arc_value c.args.entry).0) c.in-Some.cache.entries (rw (← k) (sym c.contains.ensures ∙ c.if-contains.false)) in
-    rw (c.in-Some.is, put-absent arc_value (eq (arc_value c.args.entry).0) c.in-Some.cache.entries (shown_pairs arc_value c.in-Some.cache.entries) _ absent) c.put_first.ensures.ok
+    let absent : lookup_entry (eq (arc_value c.args.entry).0) c.in-Some.cache.entries ≡ None = entry-absent (eq (arc_value c.args.entry).0) c.in-Some.cache.entries (rw (← k) (sym c.contains.ensures ∙ c.if-contains.false)) in
+    rw (c.in-Some.is, put-absent (eq (arc_value c.args.entry).0) c.in-Some.cache.entries (shown_pairs c.in-Some.cache.entries) _ absent) c.put_first.ensures.ok

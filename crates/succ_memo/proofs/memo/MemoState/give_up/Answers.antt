@@ -1,9 +1,6 @@
-use Rattle.std.specs.Arc.{arc_value}
-use Rattle.std.specs.Option.{option_map}
-use Rattle.std.specs.NonZero.{non_zero_usize_get}
 use Rattle.succ_memo.proofs.StoredMemo.{stored_memo}
 use Rattle.succ_memo.proofs.memo.MemoState.give_up.Goals as goal
 
 pub returns-clause-valid : goal.returns-clause-valid
 returns-clause-valid g c =
-    stored_memo arc_value g.R.Key.PartialEq.eq g.R.Relation.holds (option_map non_zero_usize_get c.self.inside.most) _ c.self.inside.cache c.self.invariant
+    stored_memo g.R.Key.PartialEq.eq g.R.Relation.holds c.self.inside.most _ c.self.inside.cache c.self.invariant
