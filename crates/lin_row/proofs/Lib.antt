@@ -3,3 +3,4 @@ pub mod DivisorLemmas
 pub mod EvaluationLemmas
 pub mod MixLemmas
 pub mod ColumnLemmas
+pub mod RowLemmas

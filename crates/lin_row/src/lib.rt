@@ -9,6 +9,8 @@ mod evaluation;
 mod numbers;
 mod points;
 mod rows;
+#[cfg(test)]
+mod tests;
 
 use smallvec::SmallVec;
 use std::marker::Model;

@@ -1,6 +1,6 @@
 //! Rows: how they are made and read.
 
-ghost use Rattle.std.specs.Prelude.{◌≡◌, ◌≤◌, All, length, false};
+ghost use Rattle.std.specs.Prelude.{◌≡◌, ◌≤◌, ◌↔◌, IsTrue, All, length, false};
 ghost use Rattle.poly_specs.specs.Bits.{FitsBits};
 ghost use Rattle.poly_specs.specs.Elimination.{divided};
 ghost use Rattle.poly_specs.specs.KeptRows.{IsKeptRow};
@@ -57,6 +57,13 @@ impl Row {
         ensures kept { IsKeptRow self.now }
     {
         self.strict
+    }
+
+    /// Whether two rows are equal, as `==` says: their coefficients, constants and marks are.
+    pub fn same(a: &Row, b: &Row) -> bool
+        ensures { IsTrue result ↔ (a.now ≡ b.now) }
+    {
+        a == b
     }
 
     /// The same row.
