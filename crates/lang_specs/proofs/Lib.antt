@@ -1,4 +1,5 @@
 pub mod ListLemmas
+pub mod WordLemmas
 pub mod FaultLemmas
 pub mod CanonicalLemmas
 pub mod ExampleTokens

@@ -1,5 +1,5 @@
 -- Where one thing ends and the next begins in a list of tokens.
-use Rattle.std.proofs.Common.{◌≡◌, Bool, true, false, not, List, [], ◌∷◌, ◌++◌, refl, sym, ap, ◌∙◌, subst}
+use Rattle.std.proofs.Common.{◌≡◌, Bool, ◌&&◌, true, false, not, List, [], ◌∷◌, ◌++◌, refl, sym, ap, ◌∙◌, subst}
 use Rattle.std.specs.Bool.{⊤}
 use Rattle.std.proofs.lemmas.List.{append_cancel_left}
 use Rattle.lang_specs.specs.declared.Kind.{Kind}
@@ -45,6 +45,14 @@ Splits {X} ends Is =
 
 pub apart : {A : Type 0} → true ≡ false → A
 apart e = absurd (let b : ⊥ = cc in b)
+
+pub both_left : (a b : Bool) → (a && b) ≡ true → a ≡ true
+both_left true b e = refl
+both_left false b e = e
+
+pub both_right : (a b : Bool) → (a && b) ≡ true → b ≡ true
+both_right true b e = e
+both_right false b e = apart (sym e)
 
 pub same_of : {X : Type 0} (front other rest after : List Mark) (x y : X) → front ≡ other → front ++ rest ≡ other ++ after → x ≡ y →
     Same front other rest after x y

@@ -1,5 +1,5 @@
 -- A text spells at most one list of trees.
-use Rattle.std.proofs.Common.{◌≡◌, ℕ, Bool, true, false, List, [], ◌∷◌, ◌++◌, codes, Option, Some, None, ◌&&◌, refl, sym, ap, ◌∙◌, subst, append_assoc}
+use Rattle.std.proofs.Common.{◌≡◌, ℕ, Bool, true, false, List, [], ◌∷◌, ◌++◌, codes, Option, Some, None, refl, sym, ap, ◌∙◌, subst, append_assoc}
 use Rattle.std.specs.List.{list_all}
 use Rattle.std.specs.Prelude.{bytes_eq}
 use Rattle.lang_specs.specs.declared.Kind.{Kind}
@@ -13,7 +13,7 @@ use Rattle.lang_specs.specs.Expressions.{AreJoined, IsSome, IsName, IsBound}
 use Rattle.lang_specs.specs.Grammar.{AreInOrder, IsLoc, IsTrans, IsVars, IsObs, IsTree, version, Spell}
 use Rattle.lang_specs.specs.FirstFault.{IsSpelling}
 use Rattle.lang_specs.proofs.ListLemmas.{head_is, tail_is}
-use Rattle.lang_specs.proofs.SplitLemmas.{apart}
+use Rattle.lang_specs.proofs.SplitLemmas.{apart, both_left, both_right}
 use Rattle.lang_specs.proofs.ItemSplits.{list_same}
 use Rattle.lang_specs.proofs.ListSplits.{ends_list, joined_splits, name_splits, bound_splits}
 use Rattle.lang_specs.proofs.LineSplits.{LinesRead, lines_front, lines_rest, LineHead, line_head_not, line_head_by, one_line, SameLines, LinesSplit, is_kind_out, after_loc, loc_splits, trans_splits}
@@ -300,14 +300,6 @@ one_spelled ls trees others (a, n, i, rest, p, some, h) (b, m, j, after, q, also
     same.things
 
 -- ---- literals that are read
-
-both_left : (a b : Bool) → (a && b) ≡ true → a ≡ true
-both_left true b e = refl
-both_left false b e = e
-
-both_right : (a b : Bool) → (a && b) ≡ true → b ≡ true
-both_right true b e = e
-both_right false b e = apart (sym e)
 
 all_read : (ls : List Lined) → list_all (λ l. has_few_digits l.mark.kind l.mark.text) ls ≡ true → LinesRead ls
 all_read [] h = tt

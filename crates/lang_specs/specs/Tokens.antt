@@ -54,7 +54,7 @@ tail_len (b ∷ bytes) = if (b == 47) || (b == 46) then (if digits_len bytes == 
 abbrev pub literal_len : List ℕ → ℕ
 literal_len bytes = digits_len bytes + tail_len (drop (digits_len bytes) bytes)
 
--- a literal with a denominator of 0 has no value of any length, and nothing allows it; too many digits are a limit
+-- nothing allows a literal with a denominator of 0, however many digits it has; too many digits pass a limit
 abbrev pub kind_of_literal : Result Fraction NumFault → Kind
 kind_of_literal (Ok value) = Number
 kind_of_literal (Err Range) = Number

@@ -1,11 +1,20 @@
-//! What holds of first faults and of canonical texts.
+//! What holds of words, first faults, spellings and canonical texts.
 
-ghost use Rattle.std.specs.Prelude.{◌≡◌, ℕ, List, ◌++◌};
+ghost use Rattle.std.specs.Prelude.{◌≡◌, ◌↔◌, ℕ, false, List, ◌++◌, bytes_eq};
+ghost use Rattle.std.specs.List.{list_any};
+ghost use Rattle.run_specs.specs.Names.{keywords};
+ghost use Rattle.lang_specs.specs.declared.Kind.TheVariants.{Name};
+ghost use Rattle.lang_specs.specs.Words.{word_kind};
 ghost use Rattle.lang_specs.specs.Marks.{Lined};
 ghost use Rattle.lang_specs.specs.Trees.{Tree};
 ghost use Rattle.lang_specs.specs.FirstFault.{IsSpelling, IsViable, Fault, IsFirstFault};
 ghost use Rattle.lang_specs.specs.Canonical.{canonical_text};
 ghost use Rattle.lang_specs.specs.SameTrees.{SameTrees};
+
+/// A word is a name exactly where it is none of the words that no name may be.
+pub fn names_are_no_keywords()
+    ensures { (word : List ℕ) → (word_kind word ≡ Name) ↔ (list_any (bytes_eq word) keywords ≡ false) }
+{}
 
 /// Tokens that can go on to a text of models begin with such tokens only.
 pub fn beginnings_are_viable()
