@@ -1,0 +1,4 @@
+pub mod Parts
+pub mod Constraints
+pub mod Automata
+pub mod Faults

@@ -1,0 +1,2 @@
+//! The definitions of the automata that trees say, and of what is wrong with trees.
+#![tactic(auto)]
