@@ -17,10 +17,10 @@ use Rattle.lang_specs.proofs.ExampleSpelling.{all_tokens, spelled, kept, box_tok
 
 -- ---- beginnings of a text that is spelled within all limits
 
-within : (front rest : List Lined) (trees : List Tree) (w : Which) → Spell (front ++ rest) trees → Keeps w (front ++ rest) trees → IsViableWithin w front
+pub within : (front rest : List Lined) (trees : List Tree) (w : Which) → Spell (front ++ rest) trees → Keeps w (front ++ rest) trees → IsViableWithin w front
 within front rest trees w s k = (rest, trees, s, k)
 
-kept_all : (front rest : List Lined) (trees : List Tree) → Spell (front ++ rest) trees → ((w : Which) → Keeps w (front ++ rest) trees) → HasKeptAll front
+pub kept_all : (front rest : List Lined) (trees : List Tree) → Spell (front ++ rest) trees → ((w : Which) → Keeps w (front ++ rest) trees) → HasKeptAll front
 kept_all front rest trees s k = λ part more w e.
     let parts : front ++ rest ≡ part ++ (more ++ rest) = ap (λ z. z ++ rest) e ∙ append_assoc part more rest in
     inl (more ++ rest, trees, subst (λ ls. Spell ls trees) parts s, subst (λ ls. Keeps w ls trees) parts (k w))
@@ -45,7 +45,7 @@ last_is (a ∷ []) l = refl
 last_is (a ∷ b ∷ ls) l = last_is (b ∷ ls) l
 
 -- tokens that end with no joint have kept to a limit only by going on within it
-no_joint : (w : Which) (ls : List Lined) → is_joint (last_mark ls).kind ≡ false → EndsWithJoint w ls → ⊥
+pub no_joint : (w : Which) (ls : List Lined) → is_joint (last_mark ls).kind ≡ false → EndsWithJoint w ls → ⊥
 no_joint w ls none h =
     let last : last_mark ls ≡ h.joint.mark = ap last_mark h.parts ∙ last_is h.front h.joint in
     let joins : is_joint (last_mark ls).kind ≡ true = ap (λ m. is_joint m.kind) last ∙ h.joins in
@@ -117,7 +117,7 @@ named name = record {
 abbrev before_name : List Lined
 before_name = statement 1 (the kinds.Lha ∷ a_number (codes "1") ∷ []) ++ record { line = 2; mark = the kinds.Automaton } ∷ []
 
-abbrev loc_lines : List Lined
+abbrev pub loc_lines : List Lined
 loc_lines = statement 4 (the kinds.Loc ∷ a_name x ∷ []) ++ statement 5 (the kinds.Flow ∷ box_tokens x false (codes "0") (codes "0"))
 
 abbrev tree_lines : List ℕ → List Lined
@@ -133,7 +133,7 @@ behind_name =
 abbrev with_name : List ℕ → List Lined
 with_name name = before_name ++ record { line = 2; mark = a_name name } ∷ behind_name
 
-flow_is : IsValue (codes "0") (whole 0)
+pub flow_is : IsValue (codes "0") (whole 0)
 unfolding gcd
 flow_is = inl refl
 

@@ -10,3 +10,4 @@ pub mod ItemSplits
 pub mod ListSplits
 pub mod LineSplits
 pub mod TextSplits
+pub mod ExampleLimits

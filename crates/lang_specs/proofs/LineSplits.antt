@@ -48,7 +48,7 @@ pub line_head_by : (these more : Kind → Bool) (xs : List Lined) → ((k : Kind
 line_head_by these more [] wider h = h
 line_head_by these more (x ∷ xs) wider h = wider x.mark.kind h
 
-marks_are : (line : ℕ) (ms : List Mark) (rest : List Lined) → map (λ l. l.mark) (statement line ms ++ rest) ≡ ms ++ (the kinds.EndLine ∷ map (λ l. l.mark) rest)
+pub marks_are : (line : ℕ) (ms : List Mark) (rest : List Lined) → map (λ l. l.mark) (statement line ms ++ rest) ≡ ms ++ (the kinds.EndLine ∷ map (λ l. l.mark) rest)
 marks_are line [] rest = refl
 marks_are line (m ∷ ms) rest = ap (λ z. m ∷ z) (marks_are line ms rest)
 

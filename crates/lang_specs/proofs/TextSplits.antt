@@ -178,7 +178,7 @@ tree_same : (x y : Tree) → x.line ≡ y.line → x.name ≡ y.name → vars_of
 unfolding tree_of
 tree_same x y a b c d e f = tree_parts x y a b c d e f
 
-regroup : (a b c d e f rest : List Lined) → (a ++ b ++ c ++ d ++ e ++ f) ++ rest ≡ a ++ (b ++ (c ++ (d ++ (e ++ (f ++ rest)))))
+pub regroup : (a b c d e f rest : List Lined) → (a ++ b ++ c ++ d ++ e ++ f) ++ rest ≡ a ++ (b ++ (c ++ (d ++ (e ++ (f ++ rest)))))
 regroup a b c d e f rest =
     append_assoc (a ++ b ++ c ++ d ++ e) f rest ∙ append_assoc (a ++ b ++ c ++ d) e (f ++ rest) ∙ append_assoc (a ++ b ++ c) d (e ++ (f ++ rest))
     ∙ append_assoc (a ++ b) c (d ++ (e ++ (f ++ rest))) ∙ append_assoc a b (c ++ (d ++ (e ++ (f ++ rest))))

@@ -219,3 +219,7 @@ long_name = replicate 33 65
 
 abbrev pub long_name_text : List ℕ
 long_name_text = codes "lha 1\nautomaton " ++ long_name
+
+-- seven variables, where six are allowed
+abbrev pub seven_variables : List ℕ
+seven_variables = codes "lha 1\nautomaton A\nvar a,b,c,d,e,f,g"

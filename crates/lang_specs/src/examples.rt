@@ -3,12 +3,12 @@
 ghost use Rattle.std.specs.Prelude.{◌≡◌, [], ◌∷◌, map, codes};
 ghost use Rattle.run_specs.specs.Names.{keywords};
 ghost use Rattle.lang_specs.specs.declared.Kind.TheVariants.{Lha, Name, Number, Trans, As, When, End, Comma, Open, Close, AtMost, AtLeast, Less, Greater, Equal, Minus, Arrow, EndLine, EndText, Other};
-ghost use Rattle.lang_specs.specs.declared.Which.TheVariants.{NameBytes};
+ghost use Rattle.lang_specs.specs.declared.Which.TheVariants.{Variables, NameBytes};
 ghost use Rattle.lang_specs.specs.Words.{spelled, keyword_kinds};
 ghost use Rattle.lang_specs.specs.Limits.{row_count};
 ghost use Rattle.lang_specs.specs.FirstFault.{IsSpelling, SyntaxAt, LimitAt, IsFirstFault};
 ghost use Rattle.lang_specs.specs.Canonical.{canonical_text};
-ghost use Rattle.lang_specs.specs.Examples.{at, seen, in_line, seen_in, tank, tank_text, tank_printed, narrow, narrow_printed, two_rows, starts, long_name_text};
+ghost use Rattle.lang_specs.specs.Examples.{at, seen, in_line, seen_in, tank, tank_text, tank_printed, narrow, narrow_printed, two_rows, starts, long_name_text, seven_variables};
 
 /// The keywords are the words that no name may be.
 pub fn keywords_are_spelled()
@@ -71,4 +71,9 @@ pub fn an_odd_version()
 /// A name of 33 bytes passes a limit.
 pub fn a_long_name()
     ensures { IsFirstFault long_name_text (LimitAt 2 NameBytes) }
+{}
+
+/// A seventh variable passes a limit, and the comma before it does not.
+pub fn a_seventh_variable()
+    ensures { IsFirstFault seven_variables (LimitAt 3 Variables) }
 {}
