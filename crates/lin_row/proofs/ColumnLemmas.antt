@@ -1,9 +1,9 @@
 -- Rows whose columns are moved or cut: their numbers have the same divisor.
-use Rattle.std.proofs.Common.{◌≡◌, inl, inr, ℕ, zero, suc, ◌+◌, ◌<◌, ◌≤◌, max, List, [], ◌∷◌, length, take, drop, set, get_or, replicate, refl, sym, ◌∙◌, ap, ap₂, subst, arith, ℤ, pos, unsigned_abs}
+use Rattle.std.proofs.Common.{◌≡◌, inl, inr, ℕ, zero, suc, ◌<◌, ◌≤◌, max, List, [], ◌∷◌, length, take, drop, set, get_or, replicate, refl, sym, ◌∙◌, ap, ap₂, subst, arith, ℤ, pos, unsigned_abs}
 use Rattle.std.specs.Prelude.{All}
 use Rattle.std.specs.Int.{◌∣◌}
 use Rattle.std.specs.List.{AllByRecursion}
-use Rattle.std.proofs.lemmas.List.{length-set, length-replicate, length-take, get_or-set_same, get_or-set_other, drop_more, drop_all}
+use Rattle.std.proofs.lemmas.List.{length-set, length-replicate, length-take, get_or-set_same, get_or-set_other}
 use Rattle.std.proofs.lemmas.List.Elements.{All-from_recursion, recursion_from_All, All-take}
 use Rattle.std.proofs.lemmas.Nat.Gcd.{dvd_antisymm, dvd_refl, dvd_trans, dvd-zero}
 use Rattle.poly_specs.proofs.CombinationLemmas.{gcd-IsGcd}
@@ -136,18 +136,3 @@ placed-IsKept to n r d w s le kept =
 pub record PutSoFar (to : List ℕ) (cs : List ℤ) (n i : ℕ) (ms : List ℤ) : Type 0 where
   pub width : length ms ≡ n
   pub put : put_at (drop i to) (drop i cs) ms ≡ put_at to cs (replicate n (pos 0))
-
-pub put_none : (to : List ℕ) (cs : List ℤ) (n : ℕ) (ms : List ℤ) → ms ≡ replicate n (pos 0) → PutSoFar to cs n 0 ms
-put_none to cs n ms e = record { width = ap length e ∙ length-replicate n (pos 0); put = ap (put_at to cs) e }
-
-pub put_more : (to : List ℕ) (cs : List ℤ) (n i : ℕ) (ms : List ℤ) → PutSoFar to cs n i ms → i < length to → length to ≡ length cs →
-    PutSoFar to cs n (i + 1) (set ms (get_or to i 0) (get_or cs i (pos 0)))
-put_more to cs n i ms so_far lt s =
-    let x : ℕ = get_or to i 0 in
-    let c : ℤ = get_or cs i (pos 0) in
-    let next : put_at (drop i to) (drop i cs) ms ≡ put_at (drop (i + 1) to) (drop (i + 1) cs) (set ms x c) =
-    ap₂ (λ ys zs. put_at ys zs ms) (drop_more to i 0 lt) (drop_more cs i (pos 0) (omega arith)) in
-    record { width = length-set ms x c ∙ so_far.width; put = sym next ∙ so_far.put }
-
-pub put_all : (to : List ℕ) (cs : List ℤ) (n i : ℕ) (ms : List ℤ) → PutSoFar to cs n i ms → length to ≤ i → ms ≡ put_at to cs (replicate n (pos 0))
-put_all to cs n i ms so_far le = sym (ap (λ ys. put_at ys (drop i cs) ms) (drop_all i to le)) ∙ so_far.put

@@ -18,9 +18,6 @@ pub record SumSoFar (s : ℤ) (i : ℕ) (cs ns : List ℤ) : Type 0 where
   pub fits : AllFit (running s (drop i cs) (drop i ns)) → AllFit (running (pos 0) cs ns)
   pub rest : AllFit (running (pos 0) cs ns) → AllFit (running s (drop i cs) (drop i ns))
 
-pub sum_none : (cs ns : List ℤ) → SumSoFar (pos 0) 0 cs ns
-sum_none cs ns = record { value = omega (arith, ints); fits = λ h. h; rest = λ h. h }
-
 module _ (s : ℤ) (i : ℕ) (cs ns : List ℤ) (so_far : SumSoFar s i cs ns) (lt : i < length cs) (sized : length ns ≡ length cs) where
   abbrev a : ℤ
   a = get_or cs i (pos 0)

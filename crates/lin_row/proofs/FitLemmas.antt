@@ -1,5 +1,5 @@
 -- Lists of numbers that do not pass, by recursion.
-use Rattle.std.proofs.Common.{inl, inr, suc, ◌^◌, List, [], ◌∷◌, ◌++◌, refl, sym, arith, ◌↔◌, Option, Some, None, SomeIff, IsSome, true≢false, ℤ, unsigned_abs}
+use Rattle.std.proofs.Common.{inl, inr, suc, ◌^◌, List, [], ◌∷◌, ◌++◌, refl, arith, ℤ, unsigned_abs}
 use Rattle.std.specs.List.{AllByRecursion}
 use Rattle.std.proofs.lemmas.Bool.{cases_lt}
 use Rattle.std.proofs.lemmas.List.Elements.{All-from_recursion, recursion_from_All}
@@ -34,10 +34,3 @@ some_passes (n ∷ ns) h = elim (cases_lt (unsigned_abs n) (2 ^ 127)) [
   | inl lt ↦ (let (k, x, within, is, passes) = some_passes ns (λ g. h (lt, g)) in (suc k, x, omega arith, is, passes))
   | inr ge ↦ (0, n, omega arith, refl, ge)
 ]
-
--- ---- what a value exactly where P holds says
-
-module _ {A : Type 0} (P Q : Type 0) where
-  pub some_where : (o : Option A) (v : A) → SomeIff o P v → (P → Q) → (Q → P) → IsSome o ↔ Q
-  some_where None v h f g = (λ e. absurd (true≢false (sym e)), λ q. absurd (h (g q)))
-  some_where (Some x) v h f g = (λ e. f h.0, λ q. refl)

@@ -26,9 +26,6 @@ pub record MixSoFar (p : ℤ) (cs : List ℤ) (q : ℤ) (ds : List ℤ) (i : ℕ
   pub fits : AllFit (mixed_numbers p (drop i cs) q (drop i ds)) → AllFit (mixed_numbers p cs q ds)
   pub rest : AllFit (mixed_numbers p cs q ds) → AllFit (mixed_numbers p (drop i cs) q (drop i ds))
 
-pub mix_none : (p : ℤ) (cs : List ℤ) (q : ℤ) (ds : List ℤ) → MixSoFar p cs q ds 0 []
-mix_none p cs q ds = record { count = refl; sums = refl; fits = λ h. h; rest = λ h. h }
-
 module _ (p : ℤ) (cs : List ℤ) (q : ℤ) (ds : List ℤ) (i : ℕ) (vs : List ℤ) (so_far : MixSoFar p cs q ds i vs) (lt : i < length cs) (sized : length cs ≡ length ds) where
   abbrev a : ℤ
   a = get_or cs i (pos 0)
