@@ -434,6 +434,8 @@ pub puts_step : (w : World) (i : ℕ) → IsWorld w → IsAllowed w (Put i) → 
 puts_step w i is (s, sample, made, was, filled) known =
     let t : MonitorSession = record s { phase = Begun sample; given = Some made } in
     let after = slice_set w.sessions i t in
-    let memo = put_memo w.memo made is.differ (known made.key) w.is_bounded in
-    ([], record { memo = memo.0; is_bounded = w.is_bounded; sessions = after },
-      (s, t, sample, made, record { was = was; becomes = refl }, record { filled = filled; bound = refl; put = memo.1; after_it = refl }, refl))
+    let memo = put_memo w.memo made is.differ (known made.key) w.is_bounded in (
+      [],
+      record { memo = memo.0; is_bounded = w.is_bounded; sessions = after },
+      (s, t, sample, made, record { was = was; becomes = refl }, record { filled = filled; bound = refl; put = memo.1; after_it = refl }, refl),
+    )
