@@ -1,0 +1,4 @@
+pub mod LeavingLemmas
+pub mod PivotLemmas
+pub mod CountLemmas
+pub mod ProjectionLemmas

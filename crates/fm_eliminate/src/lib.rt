@@ -1,0 +1,37 @@
+//! Systems of rows, and what is left of them without a column: Fourier-Motzkin elimination.
+#![tactic(auto)]
+
+mod coefficients;
+mod kept_rows;
+mod pivots;
+mod systems;
+
+use lin_row::{Passes, Row};
+use std::alloc::AllocError;
+use std::hash::{Hash, Hasher};
+use std::marker::Model;
+
+/// Why a call on systems has no answer.
+#[derive(Clone, Copy, Debug, PartialEq, Eq, Drop)]
+pub enum RowFault {
+    /// A number passed 128 bits.
+    Passes,
+    /// There was no memory.
+    Memory,
+}
+
+/// Rows over so many columns, at most 14.
+pub struct System {
+    width: usize,
+    rows: Vec<Row>,
+}
+
+impl Model for System {
+    ghost use Rattle.poly_specs.specs.Systems.{System as SystemValue, IsKeptSystem};
+
+    ghost Value = { SystemValue };
+
+    ghost view = { λ s. record { width = s.width; rows = s.rows.items } };
+
+    ghost invariant = { λ s. IsKeptSystem (record { width = s.width; rows = s.rows.items }) };
+}
