@@ -53,10 +53,10 @@ any_in P [] x i h = absurd i
 any_in P (y ∷ xs) x (inl e) h = (0, y, omega arith, refl, subst P e h)
 any_in P (y ∷ xs) x (inr i) h = let (k, z, lt, at, g) = any_in P xs x i h in (suc k, z, omega arith, at, g)
 
-lower-In : (x : ℕ) (rows : List Row) (r : Row) → In r rows → coef_at x r <ℤ pos 0 → In r (lowers x rows)
+pub lower-In : (x : ℕ) (rows : List Row) (r : Row) → In r rows → coef_at x r <ℤ pos 0 → In r (lowers x rows)
 lower-In x rows r i h = in_filter (λ s. int_lt (coef_at x s) (pos 0)) r rows i (grind (arith, ints))
 
-upper-In : (x : ℕ) (rows : List Row) (r : Row) → In r rows → pos 0 <ℤ coef_at x r → In r (uppers x rows)
+pub upper-In : (x : ℕ) (rows : List Row) (r : Row) → In r rows → pos 0 <ℤ coef_at x r → In r (uppers x rows)
 upper-In x rows r i h = in_filter (λ s. int_lt (pos 0) (coef_at x s)) r rows i (grind (arith, ints))
 
 -- a pair that passes is one of the pairs

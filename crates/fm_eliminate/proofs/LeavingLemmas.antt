@@ -101,7 +101,7 @@ retained {X} {F} R P f says xs ys (bs, q, sized, calls, kept) =
 
 -- ---- rows that always hold
 
-both_true : (a b : Bool) → (a && b) ≡ true → (a ≡ true) × (b ≡ true)
+pub both_true : (a b : Bool) → (a && b) ≡ true → (a ≡ true) × (b ≡ true)
 both_true true b e = (refl, e)
 both_true false b e = (e, cc)
 

@@ -1,7 +1,7 @@
 -- What is left without a column is the projection of the rows.
-use Rattle.std.proofs.Common.{◌≡◌, ◌⊎◌, inl, inr, ℕ, zero, suc, ◌<◌, Bool, true, false, not, ◌||◌, cond, IsFalse, List, [], ◌∷◌, length, map, get_or, refl, sym, ◌∙◌, ap, subst, arith, ℤ, pos, negsuc, neg_ℤ, ◌+ℤ◌, ◌-ℤ◌, ◌*ℤ◌, ◌<ℤ◌, unsigned_abs}
+use Rattle.std.proofs.Common.{◌≡◌, ◌⊎◌, inl, inr, ℕ, zero, suc, ◌<◌, Bool, true, false, not, ◌||◌, cond, IsFalse, List, [], ◌∷◌, ◌++◌, length, map, get_or, refl, sym, ◌∙◌, ap, subst, arith, ℤ, pos, negsuc, neg_ℤ, ◌+ℤ◌, ◌-ℤ◌, ◌*ℤ◌, ◌<ℤ◌, unsigned_abs}
 use Rattle.std.specs.Prelude.{int_lt, ◌==◌}
-use Rattle.std.specs.List.{list_all}
+use Rattle.std.specs.List.{flat_map, list_all}
 use Rattle.std.proofs.lemmas.Int.{ints}
 use Rattle.std.proofs.lemmas.Bool.{eq-eqb}
 use Rattle.poly_specs.proofs.ColumnLemmas.{eliminated_wide}
@@ -17,8 +17,8 @@ use Rattle.poly_specs.specs.Elimination.{combination, raw_combination, divided, 
 use Rattle.poly_specs.specs.Lists.{In, IsAmong, dot, plus}
 use Rattle.poly_specs.specs.Rows.{Point, Row, row_value, coef_at, Allows, Holds, AllHold, AllWide, SomeValueHolds}
 use Rattle.poly_specs.specs.Systems.{IsProjection, negated}
-use Rattle.fm_eliminate.specs.Leaving.{IsLeft, IsPivot, is_zero, always_holds, is_needed, replaced}
-use Rattle.fm_eliminate.proofs.LeavingLemmas.{all_from_in, left_wide, zero_is}
+use Rattle.fm_eliminate.specs.Leaving.{IsLeft, IsPivot, is_zero, always_holds, is_needed, combinations, replaced}
+use Rattle.fm_eliminate.proofs.LeavingLemmas.{all_from_in, left_more, zero_is}
 use Rattle.fm_eliminate.proofs.PivotLemmas.{coef-negated}
 
 -- ---- plain elimination
@@ -56,7 +56,7 @@ pairs_projection w x rows left h wide l =
 
 -- ---- the row in whose place another stands
 
-kinds : (z : ℤ) → (z ≡ pos 0) ⊎ ((z <ℤ pos 0) ⊎ (pos 0 <ℤ z))
+pub kinds : (z : ℤ) → (z ≡ pos 0) ⊎ ((z <ℤ pos 0) ⊎ (pos 0 <ℤ z))
 kinds (pos zero) = inl refl
 kinds (pos (suc n)) = inr (inr (omega (arith, ints)))
 kinds (negsuc n) = inr (inl (omega (arith, ints)))
@@ -64,7 +64,7 @@ kinds (negsuc n) = inr (inl (omega (arith, ints)))
 chosen : {A : Type 0} (b : Bool) (x y : A) (c : Bool) → b ≡ c → cond b x y ≡ cond c x y
 chosen b x y c e = ap (λ d. cond d x y) e
 
-free-is_zero : (z : ℤ) → z ≡ pos 0 → is_zero z ≡ true
+pub free-is_zero : (z : ℤ) → z ≡ pos 0 → is_zero z ≡ true
 free-is_zero z e = eq-eqb _ _ (ap unsigned_abs e)
 
 pub replaced_free : (x : ℕ) (lower upper r : Row) → coef_at x r ≡ pos 0 → replaced x lower upper r ≡ r
@@ -91,3 +91,9 @@ pub replaced_upper : (x : ℕ) (lower upper r : Row) → pos 0 <ℤ coef_at x r 
 replaced_upper x lower upper r h =
     chosen (is_zero (coef_at x r)) r _ false (upper-not_zero (coef_at x r) h)
     ∙ chosen (int_lt (coef_at x r) (pos 0)) (combination x r upper) (combination x lower r) false (upper-tests (coef_at x r) h)
+
+-- the rows without the column, then the combinations of the pairs
+pub left_plain : (x : ℕ) (rows free left : List Row) → IsLeft (free_of x rows) free → IsLeft (free ++ flat_map (combinations x rows) (lowers x rows)) left →
+    IsLeft (eliminated x rows) left
+unfolding eliminated
+left_plain x rows free left f g = left_more (free_of x rows) free (flat_map (combinations x rows) (lowers x rows)) left f g

@@ -1,9 +1,9 @@
 -- What is left of rows where those that say nothing more are dropped.
-use Rattle.std.specs.Prelude.{◌≡◌, ℕ, ◌==◌, ◌&&◌, ◌||◌, not, if◌then◌else◌, Bool, IsFalse, List, ℤ, pos, ◌<ℤ◌, int_lt, unsigned_abs}
+use Rattle.std.specs.Prelude.{◌≡◌, ℕ, ◌==◌, ◌&&◌, ◌||◌, not, if◌then◌else◌, Bool, IsFalse, List, map, ℤ, pos, ◌<ℤ◌, int_lt, unsigned_abs}
 use Rattle.std.specs.List.{list_all}
 use Rattle.poly_specs.specs.Lists.{In, IsAmong}
 use Rattle.poly_specs.specs.Rows.{Point, Row, coef_at, AllHold}
-use Rattle.poly_specs.specs.Elimination.{combination}
+use Rattle.poly_specs.specs.Elimination.{combination, uppers}
 use Rattle.poly_specs.specs.Systems.{negated}
 
 -- the second rows are among the first, and where they hold, the first do
@@ -35,3 +35,7 @@ pub record IsPivot (x : ℕ) (rows : List Row) (lower upper : Row) : Type 0 wher
 -- the row does not always hold
 abbrev pub is_needed : Row → Bool
 is_needed r = not (always_holds r)
+
+-- the combinations of a lower row with the upper ones
+abbrev pub combinations : ℕ → List Row → Row → List Row
+combinations x rows lower = map (combination x lower) (uppers x rows)

@@ -2,6 +2,7 @@
 #![tactic(auto)]
 
 mod coefficients;
+mod elimination;
 mod kept_rows;
 mod pivots;
 mod systems;
@@ -34,4 +35,26 @@ impl Model for System {
     ghost view = { λ s. record { width = s.width; rows = s.rows.items } };
 
     ghost invariant = { λ s. IsKeptSystem (record { width = s.width; rows = s.rows.items }) };
+}
+
+impl From<AllocError> for RowFault {
+    ghost use Rattle.std.specs.Prelude.{◌≡◌};
+    ghost use Rattle.fm_eliminate.specs.declared.RowFault.{RowFault};
+
+    ghost from_gives = { λ _ e. e ≡ RowFault.Memory };
+
+    fn from(_e: AllocError) -> RowFault {
+        RowFault::Memory
+    }
+}
+
+impl From<Passes> for RowFault {
+    ghost use Rattle.std.specs.Prelude.{◌≡◌};
+    ghost use Rattle.fm_eliminate.specs.declared.RowFault.{RowFault};
+
+    ghost from_gives = { λ _ e. e ≡ RowFault.Passes };
+
+    fn from(_e: Passes) -> RowFault {
+        RowFault::Passes
+    }
 }
