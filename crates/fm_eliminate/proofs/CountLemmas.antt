@@ -48,7 +48,7 @@ module _ {X : Type 0} (p : X → Bool) (f : X → X) where
 
 -- ---- numbers that are formed
 
-any_in : {X : Type 0} (P : X → Type 0) (xs : List X) (x : X) → In x xs → P x → Any P xs
+pub any_in : {X : Type 0} (P : X → Type 0) (xs : List X) (x : X) → In x xs → P x → Any P xs
 any_in P [] x i h = absurd i
 any_in P (y ∷ xs) x (inl e) h = (0, y, omega arith, refl, subst P e h)
 any_in P (y ∷ xs) x (inr i) h = let (k, z, lt, at, g) = any_in P xs x i h in (suc k, z, omega arith, at, g)

@@ -5,3 +5,6 @@ pub mod ProjectionLemmas
 pub mod SubstitutionLemmas
 pub mod EquationLemmas
 pub mod LoopLemmas
+pub mod HoldingLemmas
+pub mod ColumnLemmas
+pub mod LevelLemmas

@@ -1,15 +1,19 @@
 //! Systems of rows, and what is left of them without a column: Fourier-Motzkin elimination.
 #![tactic(auto)]
 
+mod by_level;
 mod coefficients;
 mod elimination;
+mod equality;
+mod holding;
 mod kept_rows;
+
+mod moves;
 mod pivots;
 mod systems;
 
 use lin_row::{Passes, Row};
 use std::alloc::AllocError;
-use std::hash::{Hash, Hasher};
 use std::marker::Model;
 
 /// Why a call on systems has no answer.
@@ -22,6 +26,7 @@ pub enum RowFault {
 }
 
 /// Rows over so many columns, at most 14.
+#[derive(Drop)]
 pub struct System {
     width: usize,
     rows: Vec<Row>,
@@ -35,6 +40,24 @@ impl Model for System {
     ghost view = { λ s. record { width = s.width; rows = s.rows.items } };
 
     ghost invariant = { λ s. IsKeptSystem (record { width = s.width; rows = s.rows.items }) };
+}
+
+/// What is left of a system in its first columns, one column more at a time.
+#[derive(Drop)]
+pub struct Levels {
+    first: usize,
+    systems: Vec<System>,
+}
+
+impl Model for Levels {
+    ghost use Rattle.std.specs.Prelude.{All};
+    ghost use Rattle.poly_specs.specs.Systems.{Levels as LevelsValue, IsKeptSystem};
+
+    ghost Value = { LevelsValue };
+
+    ghost view = { λ l. record { first = l.first; systems = l.systems.items } };
+
+    ghost invariant = { λ l. All IsKeptSystem l.systems.items };
 }
 
 impl From<AllocError> for RowFault {
