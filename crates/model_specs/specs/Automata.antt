@@ -1,6 +1,6 @@
 -- The automaton that a tree says.
-use Rattle.std.specs.Prelude.{ℕ, ◌+◌, List, [], ◌++◌, map, flat_map, length, Option, Some, None, bytes_eq, slice_index_or}
-use Rattle.std.specs.List.{find}
+use Rattle.std.specs.Prelude.{ℕ, ◌+◌, List, [], ◌++◌, map, flat_map, length, Option, Some, None, All, bytes_eq, slice_index_or}
+use Rattle.std.specs.List.{find, IsDistinct}
 use Rattle.poly_specs.specs.Fractions.{Fraction, zero_fraction}
 use Rattle.poly_specs.specs.Rows.{Row}
 use Rattle.run_specs.specs.Automaton.{Automaton, Location, Transition}
@@ -109,3 +109,14 @@ automaton_of t = record {
 
 abbrev pub automata_of : List Tree → List Automaton
 automata_of trees = map automaton_of trees
+
+-- ---- names
+
+-- no two variables have one name, and no two locations
+pub record HasDistinctNames (a : Automaton) : Type 0 where
+  pub variables : IsDistinct bytes_eq a.variables
+  pub locations : IsDistinct bytes_eq (map (λ l. l.name) a.locations)
+
+-- nor do two automata
+abbrev pub HasOneOfEachName : List Automaton → Type 0
+HasOneOfEachName automata = IsDistinct bytes_eq (map (λ a. a.name) automata) × All HasDistinctNames automata

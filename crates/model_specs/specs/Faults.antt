@@ -13,6 +13,14 @@ pub data ModelFault : Type 0 where
   EmptyBox : (line : ℕ) (name : List ℕ) → ModelFault
   Passes : (line : ℕ) (name : List ℕ) → ModelFault
 
+-- the line of the statement at fault
+abbrev pub line_of : ModelFault → ℕ
+line_of (UnknownName line name) = line
+line_of (RepeatedName line name) = line
+line_of (MissingSlope line name) = line
+line_of (EmptyBox line name) = line
+line_of (Passes line name) = line
+
 -- the fault, where it is one
 abbrev pub if_so : Bool → ModelFault → List ModelFault
 if_so b f = if b then f ∷ [] else []
