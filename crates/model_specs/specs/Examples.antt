@@ -1,14 +1,14 @@
 -- A small model with its automaton, and trees with faults.
-use Rattle.std.specs.Prelude.{ℕ, suc, true, false, pos, negsuc, ℤ, ◌+◌, List, [], ◌∷◌, map, flat_map, length, Option, Some, None, codes}
+use Rattle.std.specs.Prelude.{ℕ, true, false, pos, negsuc, ℤ, ◌+◌, List, [], ◌∷◌, map, flat_map, length, Option, Some, None, codes}
 use Rattle.poly_specs.specs.Fractions.{zero_fraction}
 use Rattle.poly_specs.specs.Rows.{Row}
 use Rattle.run_specs.specs.Automaton.{Automaton}
 use Rattle.lang_specs.specs.declared.Sign.{Sign}
 use Rattle.lang_specs.specs.declared.Sign.TheVariants.{AtMost, AtLeast, Equal}
-use Rattle.lang_specs.specs.Trees.{Term, RowTree, RowsTree, BoxTree, BoundTree, BoundsTree, LocTree, Act, TransTree, Tree}
+use Rattle.lang_specs.specs.Trees.{Term, RowTree, RowsTree, BoxTree, LocTree, Act, TransTree, Tree}
 use Rattle.model_specs.specs.Constraints.{comparison_rows}
 use Rattle.model_specs.specs.Automata.{comparisons_of}
-use Rattle.lang_specs.specs.Examples.{x, y, fraction, whole, number, variable, box}
+use Rattle.lang_specs.specs.Examples.{x, fraction, whole, number, variable, box}
 
 -- ---- parts of trees and of automata
 
