@@ -116,9 +116,13 @@ model_automaton = record {
 
 -- ---- trees like it
 
--- with a tolerance
-abbrev pub tolerant : Tree
-tolerant = record model { obs = Some (record { line = 3; bounds = record { var = x; within = fraction (pos 1) 2 } ∷ [] }) }
+-- with the tolerance 1/2 for each of these names
+abbrev pub bounded : List (List ℕ) → Tree
+bounded names = record model {
+  line = 1;
+  var_line = 2;
+  obs = Some (record { line = 3; bounds = map (λ name. record { var = name; within = fraction (pos 1) 2 }) names });
+}
 
 -- with these locations and no transition
 abbrev pub located : List LocTree → Tree

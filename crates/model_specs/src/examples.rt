@@ -1,13 +1,13 @@
 //! Trees whose automata and faults compute.
 
-ghost use Rattle.std.specs.Prelude.{◌≡◌, [], ◌∷◌, pos, negsuc, true, map, codes};
+ghost use Rattle.std.specs.Prelude.{◌≡◌, [], ◌∷◌, pos, negsuc, true, Some, None, codes};
 ghost use Rattle.poly_specs.specs.Fractions.{zero_fraction};
 ghost use Rattle.lang_specs.specs.declared.Sign.TheVariants.{AtMost, Greater};
 ghost use Rattle.lang_specs.specs.Trees.{Set, Within, Free};
 ghost use Rattle.lang_specs.specs.Examples.{x, y, fraction, whole, number, times, variable, less_term, box};
-ghost use Rattle.model_specs.specs.Automata.{tolerances, automata_of, constraint_rows, also_rows};
+ghost use Rattle.model_specs.specs.Automata.{tolerances, constraint_rows, init_rows, invariant_rows, also_rows, automata_of};
 ghost use Rattle.model_specs.specs.Faults.{UnknownName, RepeatedName, MissingSlope, EmptyBox, Passes, faults_of};
-ghost use Rattle.model_specs.specs.Examples.{compared, standing, row, minus_one, ok, high, up, model, model_automaton, tolerant, located, boxed, kept_in, jumping, acting, primes, inverses, act_rows};
+ghost use Rattle.model_specs.specs.Examples.{compared, standing, row, minus_one, ok, high, up, model, model_automaton, bounded, located, boxed, kept_in, jumping, acting, primes, inverses, act_rows};
 
 /// The model T has no fault, and its automaton is the one that is written out.
 pub fn a_model()
@@ -16,7 +16,7 @@ pub fn a_model()
 
 /// A tolerance is that of its variable; a variable without one has 0.
 pub fn some_tolerances()
-    ensures { (tolerances tolerant ≡ fraction (pos 1) 2 ∷ []) × (tolerances (record tolerant { vars = y ∷ x ∷ [] }) ≡ zero_fraction ∷ fraction (pos 1) 2 ∷ []) }
+    ensures { (tolerances (bounded (x ∷ [])) ≡ fraction (pos 1) 2 ∷ []) × (tolerances (record (bounded (x ∷ [])) { vars = y ∷ x ∷ [] }) ≡ zero_fraction ∷ fraction (pos 1) 2 ∷ []) }
 {}
 
 /// The numbers of a variable are added, all are written without denominators, and a strict sign gives a strict row.
@@ -62,10 +62,21 @@ pub fn empty_boxes()
     ensures { (faults_of (boxed (box x (whole 2) (whole 1) ∷ []) ∷ []) ≡ EmptyBox 7 x ∷ []) × (faults_of (boxed (box x (whole 2) (whole 2) ∷ []) ∷ []) ≡ []) }
 {}
 
-/// A missing slope stands at the line of the location, before a fault of its `init`.
+/// The first variable without a box stands at the line of the location, before a fault of its `init`.
 pub fn a_missing_slope()
-    ensures { faults_of (located (record ok { init = standing 5 (compared (variable y ∷ []) AtMost (number (whole 1) ∷ []) ∷ []); flow = record { line = 7; boxes = [] } } ∷ []) ∷ [])
-        ≡ MissingSlope 4 x ∷ UnknownName 5 y ∷ [] }
+    ensures { (faults_of (located (record ok { init = standing 5 (compared (variable y ∷ []) AtMost (number (whole 1) ∷ []) ∷ []); flow = record { line = 7; boxes = [] } } ∷ []) ∷ [])
+        ≡ MissingSlope 4 x ∷ UnknownName 5 y ∷ [])
+        × (faults_of (record (located (ok ∷ [])) { vars = x ∷ y ∷ [] } ∷ []) ≡ MissingSlope 4 y ∷ []) }
+{}
+
+/// A bound of `obs` is of a variable, and each variable has at most one.
+pub fn wrong_bounds()
+    ensures { faults_of (bounded (x ∷ y ∷ x ∷ []) ∷ []) ≡ UnknownName 3 y ∷ RepeatedName 3 x ∷ [] }
+{}
+
+/// Without `init` no run starts in a location, with `init true` one may start anywhere; without `inv` a run may stay anywhere.
+pub fn statements_left_out()
+    ensures { (init_rows (x ∷ []) None ≡ None) × (init_rows (x ∷ []) (standing 5 []) ≡ Some []) × (invariant_rows (x ∷ []) None ≡ []) }
 {}
 
 /// The sum of fourteen fractions with large denominators that share no factor passes; that is told with the automaton's name, behind the unknown names of its line.

@@ -4,4 +4,4 @@ use Rattle.model_specs.proofs.examples.a_missing_slope.Goals as goal
 
 pub returns : goal.returns
 unfolding gcd divisor divided
-returns c = refl
+returns c = (refl, refl)
