@@ -15,7 +15,7 @@ use Rattle.log_specs.specs.declared.Refusal.TheVariants as why
 use Rattle.log_specs.specs.declared.RunsMode.{RunsMode}
 use Rattle.log_specs.specs.declared.RunsMode.TheVariants as mode
 use Rattle.log_specs.specs.LogSessions.{LogSession, Judgement, passed_over, refused, opened, closed, flushed, accepted}
-use Rattle.log_specs.specs.RunTexts.{run_lines, ended_lines}
+use Rattle.run_specs.specs.RunTexts.{run_lines, ended_lines}
 
 -- what a report is made for: how the log is read, the automata of the file, the jumps allowed in each gap, and which runs are printed
 pub record Task : Type 0 where
@@ -103,7 +103,7 @@ wants_run mode.All last v = is_alarm v
 
 -- a run as it is printed: its lines, each behind `+ `
 abbrev pub printed_run : Run → List ℕ
-printed_run run = ended_lines (map (λ line. codes "+ " ++ line) (run_lines run))
+printed_run run = ended_lines (map (λ line. codes "+ " ++ line) (run_lines run.gaps))
 
 -- what is printed where the run passes 128 bits
 abbrev pub printed_overflow : List ℕ

@@ -2,7 +2,6 @@ pub mod SessionNames
 pub mod Fields
 pub mod LogRows
 pub mod LogSessions
-pub mod RunTexts
 pub mod Blocks
 pub mod LogReports
 pub mod Examples

@@ -31,3 +31,7 @@ pub mod LeastDenominators
 pub mod RunNumbers
 pub mod PickedValues
 pub mod FirstRunExists
+pub mod IntegerTexts
+pub mod RunTextLines
+pub mod RunTextsApart
+pub mod RunTextGoesOn

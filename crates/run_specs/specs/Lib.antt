@@ -3,6 +3,8 @@ pub mod Automaton
 pub mod WellFormed
 pub mod Logs
 pub mod Runs
+pub mod RunTexts
+pub mod RunTextFaults
 pub mod Ends
 pub mod Stages
 pub mod Passes

@@ -19,6 +19,7 @@ pub mod first_runs;
 pub mod histories;
 pub mod sessions;
 pub mod states;
+pub mod texts;
 pub mod worlds;
 
 /// The reply to a sample.

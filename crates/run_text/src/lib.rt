@@ -1,0 +1,6 @@
+//! The text of a run, written and read.
+#![tactic(auto)]
+
+mod integers;
+mod lines;
+mod pieces;
