@@ -1,2 +1,3 @@
 pub mod IntegerReading
 pub mod PieceLemmas
+pub mod LineLemmas

@@ -1,6 +1,6 @@
 //! Integers in a text.
 
-ghost use Rattle.std.specs.Prelude.{◌≡◌, ◌↔◌, IsTrue, SomeIff, true, ℤ, pos, ◌<ℤ◌, unsigned_abs, ◌<◌, Some, IfSome, MatchOption, option_and_then};
+ghost use Rattle.std.specs.Prelude.{◌≡◌, ◌↔◌, IsTrue, SomeIff, true, ℕ, ℤ, pos, ◌^◌, ◌<◌, ◌≤◌, Some, IfSome, MatchOption, option_and_then};
 ghost use Rattle.std.specs.List.{list_all};
 ghost use Rattle.std.specs.Str.{IsUtf8};
 ghost use Rattle.std.specs.Str.Parse.{signed_digits_value};
@@ -85,4 +85,28 @@ pub(crate) fn is_positive(text: &[u8]) -> bool
         return false;
     }
     text[0] != b'0'
+}
+
+/// The integer that a text writes, if it is 0 to 255.
+pub(crate) fn kept_code(text: &[u8]) -> Option<u8>
+    requires { texts.is_integer text.now ≡ true }
+    ensures { MatchOption result ((n : ℕ) → signed_digits_value 10 text.now ≡ pos n → 256 ≤ n) (λ n. (signed_digits_value 10 text.now ≡ pos n) × (n < 256)) }
+{
+    let number = kept(text)?;
+    match u8::try_from(number) {
+        Ok(code) => Some(code),
+        Err(_) => None,
+    }
+}
+
+/// The integer that a text writes, if it is 0 to 2^32 - 1.
+pub(crate) fn kept_count(text: &[u8]) -> Option<u32>
+    requires { texts.is_integer text.now ≡ true }
+    ensures { MatchOption result ((n : ℕ) → signed_digits_value 10 text.now ≡ pos n → 2 ^ 32 ≤ n) (λ n. (signed_digits_value 10 text.now ≡ pos n) × (n < 2 ^ 32)) }
+{
+    let number = kept(text)?;
+    match u32::try_from(number) {
+        Ok(count) => Some(count),
+        Err(_) => None,
+    }
 }
