@@ -4,3 +4,6 @@
 mod integers;
 mod lines;
 mod pieces;
+mod write;
+
+pub use write::write_run;
