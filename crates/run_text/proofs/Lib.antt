@@ -1,3 +1,5 @@
 pub mod IntegerReading
 pub mod PieceLemmas
 pub mod LineLemmas
+pub mod StateLemmas
+pub mod ReadingLemmas

@@ -1,1 +1,3 @@
 pub mod Tells
+pub mod States
+pub mod Reading

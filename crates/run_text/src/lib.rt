@@ -4,6 +4,9 @@
 mod integers;
 mod lines;
 mod pieces;
+mod read;
+mod states;
 mod write;
 
+pub use read::{TextFault, read_run};
 pub use write::write_run;

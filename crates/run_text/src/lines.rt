@@ -1,6 +1,6 @@
 //! The lines of a run's text, read.
 
-ghost use Rattle.std.specs.Prelude.{◌≡◌, ℕ, ◌+◌, ◌≤◌, ◌<◌, ◌++◌, ◌∷◌, [], List, length, true, false, OnOk, IfOk, IfErr, IfSome, IfNone, MatchOption, ℤ, pos, ◌≤ℤ◌, Some, None, codes, All, Bool};
+ghost use Rattle.std.specs.Prelude.{◌≡◌, ℕ, ◌+◌, ◌≤◌, ◌<◌, ◌^◌, ◌++◌, ◌∷◌, [], List, length, true, false, OnOk, IfOk, IfErr, IfSome, IfNone, MatchOption, ℤ, pos, ◌≤ℤ◌, Some, None, codes, All, Bool};
 ghost use Rattle.std.specs.List.{list_all};
 ghost use Rattle.std.specs.Str.Parse.{signed_digits_value};
 ghost use Rattle.poly_specs.specs.Bits.{FitsBits};
@@ -40,7 +40,7 @@ fn single<'a>(line: &'a [u8], word: &[u8]) -> Option<&'a [u8]>
 
 /// The number of gaps, from `run G`.
 pub(crate) fn read_count(line: &[u8]) -> Result<u32, LineFault>
-    ensures ok { IfOk result (λ g. (line.now ≡ run_line g) × (1 ≤ g)) }
+    ensures ok { IfOk result (λ g. (line.now ≡ run_line g) × (1 ≤ g) × (g < 2 ^ 32)) }
     ensures fault { IfErr result (λ e. Tells e (step RunLine line.now)) }
 {
     let Some(text) = single(line, b"run ") else {
