@@ -19,3 +19,4 @@ pub mod SessionHistories
 pub mod StateHistories
 pub mod Sessions
 pub mod Worlds
+pub mod RunChecks
