@@ -8,12 +8,12 @@ use Rattle.std.proofs.lemmas.List.{get_or_past, length-map}
 use Rattle.std.proofs.lemmas.List.Elements.{All-from_recursion, recursion_from_All}
 use Rattle.poly_specs.specs.Lists.{minus}
 use Rattle.poly_specs.specs.Fractions.{Fraction, SameFraction, difference, zero_fraction}
-use Rattle.poly_specs.specs.Rows.{Row, Point, AllHold, SamePoint, over}
+use Rattle.poly_specs.specs.Rows.{Row, Point, AllHold, SamePoint, coordinate, over}
 use Rattle.run_specs.specs.declared.checks.Stop.TheVariants.{Fails}
-use Rattle.run_specs.specs.Automaton.{Automaton, Location, Transition, nowhere, no_transition, width, location_at, transition_at}
+use Rattle.run_specs.specs.Automaton.{Automaton, Location, Transition, nowhere, no_transition, width, location_at, transition_at, tolerance_at}
 use Rattle.run_specs.specs.Logs.{Sample, IsLog, IsPassing, cell_at}
 use Rattle.run_specs.specs.Runs.{Leg, Move, GapRun, Place, IsLeg, IsJump, LeadOn, Continues, Follows, IsRun, start_point, end_point, end_of, total}
-use Rattle.run_specs.specs.RunChecks.{Step, row_steps, slope_steps, leg_steps, jump_steps, path_steps, near_steps, IsNear, IsMoveInRange, IsInRange, start_steps, join_steps, length_steps, gap_steps, gap_at, sample_at, gap_before, time_before, GapAnswers, HasCount, IsRunOf, run_of}
+use Rattle.run_specs.specs.RunChecks.{Step, row_steps, slope_steps, leg_steps, jump_steps, path_steps, near_steps, IsNear, value_steps, IsMoveInRange, IsInRange, start_steps, join_steps, length_steps, gap_steps, gap_at, sample_at, gap_before, time_before, GapAnswers, HasCount, IsRunOf, run_of}
 use Rattle.run_specs.proofs.SystemLemmas.{nowhere_holds}
 use Rattle.run_specs.proofs.CheckLemmas.{AllAsked, met_asked, failed_asked, asked_front, asked_back, asked_both, rows_hold, rows_asked}
 
@@ -148,16 +148,31 @@ module _ (a : Automaton) (d : ℤ) (last : Leg) where
 -- ---- samples
 
 module _ (a : Automaton) (cells : List (Option Fraction)) (p : Point) where
-  pub near_is : (n : ℕ) → AllAsked (near_steps a cells p n) → (j : ℕ) → j < n → IsNear a cells p j
+  abbrev IsNearIn : ℕ → Type 0
+  IsNearIn j = IsNear (tolerance_at a j) (cell_at j cells) (coordinate j p)
+
+  abbrev steps_in : ℕ → List Step
+  steps_in j = value_steps (tolerance_at a j) (cell_at j cells) (coordinate j p)
+
+  value_is : (j : ℕ) → AllAsked (steps_in j) → IsNearIn j
+  unfolding value_steps
+  value_is j h = h.0
+
+  value_asked : (j : ℕ) → IsNearIn j → AllAsked (steps_in j)
+  unfolding value_steps
+  value_asked j h = (h, tt)
+
+  pub near_is : (n : ℕ) → AllAsked (near_steps a cells p n) → (j : ℕ) → j < n → IsNearIn j
   near_is zero h j lt = absurd (omega arith)
   near_is (suc n) h j lt = elim (cases_lt j n) [
-    | inl below ↦ near_is n (asked_front (near_steps a cells p n) _ h) j below
-    | inr ge ↦ subst (IsNear a cells p) (let e : n ≡ j = omega arith in e) (asked_back (near_steps a cells p n) _ h).0
+    | inl below ↦ near_is n (asked_front (near_steps a cells p n) (steps_in n) h) j below
+    | inr ge ↦ subst IsNearIn (let e : n ≡ j = omega arith in e) (value_is n (asked_back (near_steps a cells p n) (steps_in n) h))
   ]
 
-  pub near_asked : (n : ℕ) → ((j : ℕ) → j < n → IsNear a cells p j) → AllAsked (near_steps a cells p n)
+  pub near_asked : (n : ℕ) → ((j : ℕ) → j < n → IsNearIn j) → AllAsked (near_steps a cells p n)
   near_asked zero h = tt
-  near_asked (suc n) h = asked_both (near_steps a cells p n) _ (near_asked n (λ j lt. h j (omega arith))) (h n (omega arith), tt)
+  near_asked (suc n) h =
+      asked_both (near_steps a cells p n) (steps_in n) (near_asked n (λ j lt. h j (omega arith))) (value_asked n (h n (omega arith)))
 
   pub passing : length cells ≡ width a → length p.num ≡ width a → AllAsked (near_steps a cells p (width a)) → IsPassing a cells p
   passing all sized h = record {
@@ -172,7 +187,8 @@ module _ (a : Automaton) (cells : List (Option Fraction)) (p : Point) where
 
 -- what the check of a gap asks
 pub record AsksOfGap (a : Automaton) (k : ℕ) (before : Option GapRun) (t : Fraction) (s : Sample) (g : GapRun) : Type 0 where
-  pub in_range : IsInRange a k g
+  pub in_range : IsInRange a g
+  pub few : length g.moves ≤ k
   pub join : AllAsked (join_steps a before g)
   pub path : AllAsked (path_steps a g.den g.start_loc g.start g.moves g.last)
   pub lasts : SameFraction (record { num = total g.moves g.last; den = g.den }) (difference s.time t)
@@ -191,7 +207,8 @@ module _ (a : Automaton) (k : ℕ) (before : Option GapRun) (t : Fraction) (s : 
       let more = asked_back (join_steps a before g) (path ++ ends) h.1 in
       let last = asked_back path ends more in
       record {
-        in_range = h.0;
+        in_range = h.0.0;
+        few = h.0.1;
         join = asked_front (join_steps a before g) (path ++ ends) h.1;
         path = asked_front path ends more;
         lasts = last.0;
@@ -201,7 +218,7 @@ module _ (a : Automaton) (k : ℕ) (before : Option GapRun) (t : Fraction) (s : 
   pub gap_asked : AsksOfGap a k before t s g → AllAsked (gap_steps a k before t s g)
   unfolding gap_steps length_steps
   gap_asked h = (
-    h.in_range,
+    (h.in_range, h.few),
     asked_both (join_steps a before g) (path ++ ends) h.join (asked_both path ends h.path (h.lasts, h.near)),
   )
 
@@ -212,7 +229,7 @@ module _ (a : Automaton) (k : ℕ) (before : Option GapRun) (t : Fraction) (s : 
       record {
         same_loc = loc;
         same_point = point;
-        few = range.few;
+        few = h.few;
         gap_run = record {
           positive = range.positive;
           leads = path_is a g.den g.last g.start_loc g.start g.moves
@@ -238,8 +255,8 @@ module _ (a : Automaton) (k : ℕ) (before : Option GapRun) (t : Fraction) (s : 
           start = start;
           moves = All-from_recursion (IsMoveInRange a) g.moves all.1;
           last = all.2;
-          few = is.few;
         };
+        few = is.few;
         join = join;
         path = path_asked a g.den g.last g.start_loc g.start g.moves run.leads;
         lasts = run.lasts;

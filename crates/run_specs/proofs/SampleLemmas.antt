@@ -81,7 +81,7 @@ parts v w hv hw =
     }
 
 -- x ≤ v + w, and v - w ≤ x
-sum_above : (v w x : Fraction) → IsFraction v → IsFraction w → AtMost x (least_sum v w) ↔ AtMost (difference x v) w
+pub sum_above : (v w x : Fraction) → IsFraction v → IsFraction w → AtMost x (least_sum v w) ↔ AtMost (difference x v) w
 sum_above v w x hv hw =
     let g : ℤ = pos (gcd (unsigned_abs v.den) (unsigned_abs w.den)) in
     let f : ℤ = pos (left_factor v w) in
@@ -97,7 +97,7 @@ sum_above v w x hv hw =
       λ h. rw (l1, l2) (let m = rw l3 at (s.0 (rw (r1, r2) at h)) in omega (arith, ints, m)),
     )
 
-sum_below : (v w x : Fraction) → IsFraction v → IsFraction w → AtMost (least_sum v (opposite w)) x ↔ AtMost (difference v x) w
+pub sum_below : (v w x : Fraction) → IsFraction v → IsFraction w → AtMost (least_sum v (opposite w)) x ↔ AtMost (difference v x) w
 sum_below v w x hv hw =
     let g : ℤ = pos (gcd (unsigned_abs v.den) (unsigned_abs w.den)) in
     let f : ℤ = pos (left_factor v w) in

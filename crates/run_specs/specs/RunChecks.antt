@@ -10,7 +10,7 @@ use Rattle.run_specs.specs.declared.checks.Stop.TheVariants.{Fails, Passes}
 use Rattle.run_specs.specs.Automaton.{Automaton, Location, width, location_at, transition_at, tolerance_at}
 use Rattle.run_specs.specs.Logs.{Sample, cell_at}
 use Rattle.run_specs.specs.Runs.{Leg, Move, GapRun, Run, IsRun, end_loc, path_of, start_point, end_point, total}
-use Rattle.run_specs.specs.Stages.{seen_sums}
+use Rattle.run_specs.specs.Stages.{near_sums}
 
 -- ---- steps
 
@@ -69,14 +69,18 @@ abbrev pub sums_from : ℤ → List Move → Leg → List ℤ
 sums_from so_far [] last = (so_far +ℤ last.length_of) ∷ []
 sums_from so_far (m ∷ ms) last = (so_far +ℤ m.leg.length_of) ∷ sums_from (so_far +ℤ m.leg.length_of) ms last
 
--- what is observed of variable j is near the point's coordinate
-abbrev pub IsNear : Automaton → List (Option Fraction) → Point → ℕ → Type 0
-IsNear a cells p j = (v : Fraction) → cell_at j cells ≡ Some v → DifferAtMost (tolerance_at a j) v (coordinate j p)
+-- the value x is within the tolerance w of what is observed
+abbrev pub IsNear : Fraction → Option Fraction → Fraction → Type 0
+IsNear w cell x = (v : Fraction) → cell ≡ Some v → DifferAtMost w v x
 
--- the first n variables, in order: the sum and the difference with the tolerance, and then that the point is near
+-- the step of a variable: the sum and the difference of what is observed with the tolerance, and then that its value is near
+unfoldable pub value_steps : Fraction → Option Fraction → Fraction → List Step
+value_steps w cell x = record { numbers = near_sums w cell; asked = IsNear w cell x } ∷ []
+
+-- those of the first n variables, in order
 abbrev pub near_steps : Automaton → List (Option Fraction) → Point → ℕ → List Step
 near_steps a cells p zero = []
-near_steps a cells p (suc n) = near_steps a cells p n ++ record { numbers = seen_sums a cells n; asked = IsNear a cells p n } ∷ []
+near_steps a cells p (suc n) = near_steps a cells p n ++ value_steps (tolerance_at a n) (cell_at n cells) (coordinate n p)
 
 -- ---- the steps of a gap
 
@@ -86,14 +90,13 @@ pub record IsMoveInRange (a : Automaton) (m : Move) : Type 0 where
   pub transition : m.transition < length a.transitions
   pub after : length m.after ≡ width a
 
--- sizes and numbers are in range, and there are at most k moves
-pub record IsInRange (a : Automaton) (k : ℕ) (g : GapRun) : Type 0 where
+-- sizes and numbers are in range
+pub record IsInRange (a : Automaton) (g : GapRun) : Type 0 where
   pub positive : pos 0 <ℤ g.den
   pub start_loc : g.start_loc < length a.locations
   pub start : length g.start ≡ width a
   pub moves : All (IsMoveInRange a) g.moves
   pub last : length g.last.at_end ≡ width a
-  pub few : length g.moves ≤ k
 
 -- a start location has init rows, and they hold
 abbrev pub start_steps : Option (List Row) → GapRun → List Step
@@ -115,10 +118,10 @@ length_steps duration g =
     }
     ∷ []
 
--- a gap after this one, if there is one, and after time t: its range, the join, each leg and jump, its length, its sample
+-- a gap after this one, if there is one, and after time t: its range and at most k moves, the join, each leg and jump, its length, its sample
 unfoldable pub gap_steps : Automaton → ℕ → Option GapRun → Fraction → Sample → GapRun → List Step
 gap_steps a k before t s g =
-    asks (IsInRange a k g)
+    asks (IsInRange a g × (length g.moves ≤ k))
     ∷ (join_steps a before g
     ++ (path_steps a g.den g.start_loc g.start g.moves g.last
     ++ (length_steps (difference s.time t) g ++ near_steps a s.cells (end_point g) (width a))))
