@@ -1,5 +1,5 @@
 -- Sums of lengths, and the time between two samples.
-use Rattle.std.proofs.Common.{◌≡◌, ◌⊎◌, inl, inr, ◌↔◌, ℕ, ◌+◌, ◌<◌, ◌≤◌, List, [], ◌∷◌, ◌++◌, length, drop, get_or, refl, sym, ◌∙◌, ap, subst, arith, ℤ, pos, ◌+ℤ◌, ◌*ℤ◌, ◌<ℤ◌, Option, Some, None, SomeIff, Result, Ok, Err}
+use Rattle.std.proofs.Common.{◌≡◌, inl, inr, ◌↔◌, ℕ, ◌+◌, ◌<◌, ◌≤◌, List, [], ◌∷◌, length, drop, get_or, refl, sym, ◌∙◌, subst, arith, ℤ, pos, ◌+ℤ◌, ◌*ℤ◌, ◌<ℤ◌, Option, Some, None, SomeIff, Ok, Err}
 use Rattle.std.proofs.lemmas.Int.{ints}
 use Rattle.std.proofs.lemmas.List.{drop_more, drop_all}
 use Rattle.poly_specs.specs.Bits.{FitsBits, NonePasses}
@@ -8,7 +8,6 @@ use Rattle.poly_specs.specs.Arithmetic.{lowest}
 use Rattle.poly_specs.proofs.FractionLemmas.{same-trans}
 use Rattle.poly_specs.proofs.IntLemmas.{product_positive}
 use Rattle.poly_specs.proofs.LowestLemmas.{lowest-same, lowest-IsFraction}
-use Rattle.run_specs.specs.declared.checks.Stop.{Stop}
 use Rattle.run_specs.specs.declared.checks.Stop.TheVariants.{Fails, Passes}
 use Rattle.run_specs.specs.Runs.{Leg, Move, GapRun, total}
 use Rattle.run_specs.specs.RunChecks.{Answers, sums_from, length_steps}

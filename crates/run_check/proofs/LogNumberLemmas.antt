@@ -1,6 +1,6 @@
 -- Differences of numbers that a log may hold do not pass.
-use Rattle.std.proofs.Common.{◌≡◌, ℕ, zero, suc, ◌+◌, ◌*◌, ◌/◌, ◌<◌, ◌≤◌, ◌^◌, List, [], ◌∷◌, refl, sym, ◌∙◌, ap, ap₂, subst, arith, ℤ, pos, neg_ℤ, unsigned_abs, ◌+ℤ◌, ◌*ℤ◌, ◌<ℤ◌}
-use Rattle.std.proofs.Math.Nat.{mul_comm, mul_assoc, pos_of_dvd_of_pos, mul-div_cancel', dvd_of_mul-dvd-mul_right, mul-dvd-mul_left, le_of_dvd, mul-le-mul_left, mul-le-mul_right}
+use Rattle.std.proofs.Common.{◌≡◌, ℕ, zero, suc, ◌*◌, ◌/◌, ◌<◌, ◌≤◌, ◌^◌, sym, ◌∙◌, ap, ap₂, subst, arith, ℤ, pos, unsigned_abs, ◌+ℤ◌, ◌*ℤ◌}
+use Rattle.std.proofs.Math.Nat.{mul_comm, mul_assoc, mul-div_cancel', dvd_of_mul-dvd-mul_right, mul-dvd-mul_left, le_of_dvd, mul-le-mul_right}
 use Rattle.std.proofs.lemmas.Int.{ints, unsigned_abs-mul}
 use Rattle.std.specs.Int.{◌∣◌}
 use Rattle.poly_specs.specs.Fractions.{Fraction, IsFraction, opposite}

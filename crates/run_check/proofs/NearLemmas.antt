@@ -1,5 +1,5 @@
 -- Values that are near what is observed.
-use Rattle.std.proofs.Common.{◌≡◌, ◌⊎◌, inl, inr, ◌↔◌, ℕ, zero, suc, ◌+◌, ◌<◌, ◌≤◌, Bool, List, [], ◌∷◌, ◌++◌, length, get_or, refl, sym, ◌∙◌, ap, subst, arith, add-one, ℤ, Option, Some, None, Result, Ok, Err, IsTrue}
+use Rattle.std.proofs.Common.{◌≡◌, inl, inr, ◌↔◌, ℕ, zero, suc, ◌+◌, ◌<◌, Bool, List, ◌++◌, length, get_or, refl, sym, ◌∙◌, ap, subst, arith, add-one, ℤ, Option, Some, None, Result, Ok, Err, IsTrue}
 use Rattle.std.specs.Prelude.{⊤}
 use Rattle.std.proofs.lemmas.Bool.{cases_lt}
 use Rattle.std.proofs.lemmas.List.{get_or_default}
@@ -14,10 +14,10 @@ use Rattle.run_specs.specs.declared.checks.Stop.TheVariants.{Fails, Passes}
 use Rattle.run_specs.specs.Automaton.{Automaton, tolerance_at}
 use Rattle.run_specs.specs.Logs.{cell_at}
 use Rattle.run_specs.specs.Stages.{near_sums}
-use Rattle.run_specs.specs.RunChecks.{Step, Answers, IsNear, value_steps, near_steps}
+use Rattle.run_specs.specs.RunChecks.{Step, Answers, value_steps, near_steps}
 use Rattle.run_specs.proofs.CheckLemmas.{none_formed, answers_then, answers_stop}
 use Rattle.run_specs.proofs.SampleLemmas.{sum_above, sum_below}
-use Rattle.lin_row.proofs.FitLemmas.{AllFit, none_passes, all_fit, AllFit-front, AllFit-back, AllFit-append}
+use Rattle.lin_row.proofs.FitLemmas.{none_passes, all_fit, AllFit-front, AllFit-back, AllFit-append}
 use Rattle.run_check.proofs.NumberLemmas.{lowest_at_most}
 use Rattle.run_check.proofs.StepLemmas.{some_passes_not}
 

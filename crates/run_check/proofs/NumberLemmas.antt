@@ -1,5 +1,5 @@
 -- Fractions in lowest terms say what the fractions say.
-use Rattle.std.proofs.Common.{◌≡◌, Bool, true, false, refl, sym, ◌∙◌, ap, ap₂, arith, ℤ, pos, ◌<ℤ◌, ◌*ℤ◌, IsTrue, ◌↔◌, ◌&&◌, int_eq}
+use Rattle.std.proofs.Common.{◌≡◌, Bool, true, false, refl, sym, ◌∙◌, ap, ap₂, IsTrue, ◌↔◌, ◌&&◌, int_eq}
 use Rattle.std.proofs.lemmas.Bool.Decides.{Decides-int_eq}
 use Rattle.poly_specs.specs.Fractions.{Fraction, IsFraction, SameFraction, AtMost}
 use Rattle.poly_specs.specs.Arithmetic.{lowest}

@@ -1,13 +1,13 @@
 -- How a check goes on from part to part: what the rest of it answers, all of it answers.
-use Rattle.std.proofs.Common.{◌≡◌, ◌⊎◌, inl, inr, ℕ, ◌+◌, ◌<◌, ◌≤◌, Bool, true, false, List, [], ◌∷◌, ◌++◌, length, drop, get_or, refl, sym, ◌∙◌, ap, subst, arith, ℤ, pos, Result, Ok, Err, Option, None, Some, IsTrue, ◌↔◌, not}
+use Rattle.std.proofs.Common.{◌≡◌, inl, inr, ℕ, ◌+◌, ◌<◌, ◌≤◌, Bool, true, false, List, [], ◌∷◌, ◌++◌, length, drop, get_or, refl, sym, ◌∙◌, subst, ℤ, Result, Ok, Err, IsTrue, ◌↔◌}
 use Rattle.std.specs.Prelude.{⊤}
 use Rattle.std.proofs.lemmas.List.{drop_more, drop_all}
 use Rattle.poly_specs.specs.Bits.{SomePasses, NonePasses}
 use Rattle.poly_specs.specs.Evaluation.{eval_numbers}
 use Rattle.poly_specs.specs.Rows.{Row, Allows, over, row_value}
 use Rattle.run_specs.specs.declared.checks.Stop.{Stop}
-use Rattle.run_specs.specs.declared.checks.Stop.TheVariants.{Fails, Passes}
-use Rattle.run_specs.specs.RunChecks.{Step, asks, Answers, row_steps}
+use Rattle.run_specs.specs.declared.checks.Stop.TheVariants.{Passes}
+use Rattle.run_specs.specs.RunChecks.{Step, Answers, row_steps}
 use Rattle.run_specs.proofs.CheckLemmas.{answers_then, answers_stop}
 use Rattle.lin_row.proofs.FitLemmas.{some_passes, none_passes}
 

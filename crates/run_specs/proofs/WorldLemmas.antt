@@ -15,7 +15,7 @@ use Rattle.run_specs.specs.Logs.{Sample, IsSample, IsLog}
 use Rattle.run_specs.specs.Keys.{State, Key}
 use Rattle.run_specs.specs.SessionHistories.{Entry, IsEntry, SessionHistory, IsHistory, LaterGapsLast, opening_states, last_belief, belief_after, has_passed, has_overflowed, verdict_after, verdict_at}
 use Rattle.run_specs.specs.Sessions.{MonitorSession, IsMonitorSession, Phase, Idle, Begun, Missed, Filled, IsBegun, IsEntryFor, PhaseHolds, AreEntriesOf, AreColumns, accepted, last_time, IsInTime, key_for, key_wanted, wanted_for, wanted_in, wanted}
-use Rattle.run_specs.specs.Worlds.{World, IsWorld, Event, Begin, LookHit, LookMiss, Fill, Put, Finish, Told, HasKey, KeysDiffer, SameEntries, KeepsSome, IsAdded, IsPut, KeepsMemo, Changes, joined, IsLookMiss, IsStep, IsAllowed, IsEvent, IsOfSession, LeadTo}
+use Rattle.run_specs.specs.Worlds.{World, IsWorld, Event, Begin, LookHit, LookMiss, Fill, Put, Finish, Told, HasKey, KeysDiffer, IsAdded, IsPut, KeepsMemo, Changes, joined, IsLookMiss, IsStep, IsAllowed, IsEvent, IsOfSession, LeadTo}
 
 -- ---- steps are allowed
 

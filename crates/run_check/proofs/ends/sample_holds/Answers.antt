@@ -1,4 +1,4 @@
-use Rattle.std.proofs.Common.{◌≡◌, ◌<◌, ◌∙◌, length, rules, SFits, sym, ap, arith, get_or, pos, refl}
+use Rattle.std.proofs.Common.{◌≡◌, ◌<◌, length, rules, SFits, arith, get_or, pos, refl}
 use Rattle.std.specs.Int.{w128}
 use Rattle.std.proofs.lemmas.Int.{to_z-of_z}
 use Rattle.run_specs.specs.Automaton.{width}

@@ -1,4 +1,4 @@
-use Rattle.std.proofs.Common.{◌≡◌, ◌+ℤ◌, pos, rules, SFits, to_z}
+use Rattle.std.proofs.Common.{rules, SFits, to_z}
 use Rattle.std.specs.Int.{w128}
 use Rattle.std.proofs.lemmas.Int.{to_z-of_z}
 use Rattle.run_check.proofs.EndLemmas.{lengths_more, lengths_stop, lengths_are}

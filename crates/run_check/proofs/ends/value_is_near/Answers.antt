@@ -1,4 +1,4 @@
-use Rattle.std.proofs.Common.{◌≡◌, ◌∙◌, rules, SFits, sym, true≢false}
+use Rattle.std.proofs.Common.{◌∙◌, rules, SFits, sym, true≢false}
 use Rattle.std.specs.Int.{w128}
 use Rattle.std.proofs.lemmas.Int.{to_z-of_z}
 use Rattle.poly_specs.specs.Fractions.{Fraction}

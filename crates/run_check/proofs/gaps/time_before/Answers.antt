@@ -1,6 +1,5 @@
 use Rattle.std.proofs.Common.{◌≡◌, ◌-◌, ◌<◌, ◌∙◌, ◌^◌, length, rules, sym, subst, arith, one-mul}
 use Rattle.std.proofs.Math.Nat.{dvd-mul_right}
-use Rattle.std.proofs.lemmas.Int.{ints}
 use Rattle.std.specs.Int.{◌∣◌}
 use Rattle.poly_specs.specs.Fractions.{zero_fraction}
 use Rattle.number_specs.specs.LogNumbers.{IsLogNumber}

@@ -1,8 +1,4 @@
-use Rattle.std.proofs.Common.{length, rules, SFits}
-use Rattle.std.specs.Int.{w128}
-use Rattle.std.proofs.lemmas.Int.{to_z-of_z}
-use Rattle.poly_specs.specs.Rows.{AllWide}
-use Rattle.run_check.proofs.LegLemmas.{moves_pass, moves_answer, slopes_wide}
+use Rattle.run_check.proofs.LegLemmas.{slopes_wide}
 use Rattle.run_check.proofs.legs.leg_moves.Goals as goal
 
 pub rows_hold-requires-clause-wide : goal.rows_hold-requires-clause-wide

@@ -1,7 +1,7 @@
 use Rattle.std.proofs.Common.{SFits, rules, get_or, pos}
 use Rattle.std.specs.Int.{w128}
 use Rattle.std.proofs.lemmas.Int.{to_z-of_z}
-use Rattle.run_check.proofs.LegLemmas.{no_slopes, slopes_more, slopes_stop, slopes_are}
+use Rattle.run_check.proofs.LegLemmas.{slopes_more, slopes_stop}
 use Rattle.run_check.proofs.legs.slopes_at.Goals as goal
 
 pub returns-in_err-kept_difference : goal.returns-in_err-kept_difference

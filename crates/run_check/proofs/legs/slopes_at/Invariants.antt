@@ -1,4 +1,4 @@
-use Rattle.std.proofs.Common.{◌≡◌, ◌++◌, take}
+use Rattle.std.proofs.Common.{◌≡◌}
 use Rattle.run_check.proofs.LegLemmas.{SlopesSoFar}
 use Rattle.run_check.proofs.legs.slopes_at.Given as goal
 

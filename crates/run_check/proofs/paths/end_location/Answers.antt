@@ -1,4 +1,4 @@
-use Rattle.std.proofs.Common.{◌≡◌, refl}
+use Rattle.std.proofs.Common.{refl}
 use Rattle.run_specs.specs.Runs.{end_loc, path_of}
 use Rattle.run_check.proofs.PathLemmas.{end_more, end_last}
 use Rattle.run_check.proofs.paths.end_location.Goals as goal

@@ -1,6 +1,4 @@
-use Rattle.std.proofs.Common.{◌≡◌, refl, sym, true}
-use Rattle.run_specs.specs.Runs.{goes_unsafe, path_of}
-use Rattle.run_check.proofs.PathLemmas.{unsafe_more, unsafe_here, unsafe_last}
+use Rattle.std.proofs.Common.{refl}
 use Rattle.run_check.proofs.paths.visits_unsafe.Goals as goal
 
 pub loop-m-init : goal.loop-m-init

@@ -1,4 +1,4 @@
-use Rattle.std.proofs.Common.{SFits, rules, pos}
+use Rattle.std.proofs.Common.{SFits, rules}
 use Rattle.std.specs.Int.{w128}
 use Rattle.std.proofs.lemmas.Int.{to_z-of_z}
 use Rattle.run_check.proofs.StepLemmas.{row_passes, row_met}
