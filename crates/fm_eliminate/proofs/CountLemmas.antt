@@ -13,7 +13,6 @@ use Rattle.fm_eliminate.proofs.PivotLemmas.{in_item}
 -- ---- elements that a test drops
 
 module _ {X : Type 0} (p : X → Bool) (f : X → X) where
-
   at_most_one : (b : Bool) (x : X) (xs : List X) → length (cond b (x ∷ xs) xs) ≤ length xs + 1
   at_most_one true x xs = omega arith
   at_most_one false x xs = omega arith

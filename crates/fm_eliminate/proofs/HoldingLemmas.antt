@@ -15,9 +15,9 @@ some_or_none [] = inr (All-nil FitsBits)
 some_or_none (n ∷ ns) = elim (cases_lt (unsigned_abs n) (2 ^ 127)) [
   | inr ge ↦ inl (any_in PassesBits (n ∷ ns) n (inl refl) ge)
   | inl lt ↦ elim (some_or_none ns) [
-      | inl (k, z, h, at, p) ↦ inl (suc k, z, omega arith, at, p)
-      | inr none ↦ inr (All-cons FitsBits n ns lt none)
-    ]
+    | inl (k, z, h, at, p) ↦ inl (suc k, z, omega arith, at, p)
+    | inr none ↦ inr (All-cons FitsBits n ns lt none)
+  ]
 ]
 
 pub some_passes : (ns : List ℤ) → (NonePasses ns → ⊥) → SomePasses ns

@@ -36,12 +36,12 @@ left_more rows left more next f g = record {
     | inr j ↦ in_right r rows more j
   ];
   enough = λ p d h.
-    let both = g.enough p d h in
-    let first = f.enough p d (AllHold-from_in left p (λ r i. AllHold-at_in (left ++ more) p both r (in_left r left more i))) in
-    AllHold-from_in (rows ++ more) p (λ r i. elim (in_either r rows more i) [
-      | inl j ↦ AllHold-at_in rows p first r j
-      | inr j ↦ AllHold-at_in (left ++ more) p both r (in_right r left more j)
-    ]);
+      let both = g.enough p d h in
+      let first = f.enough p d (AllHold-from_in left p (λ r i. AllHold-at_in (left ++ more) p both r (in_left r left more i))) in
+      AllHold-from_in (rows ++ more) p (λ r i. elim (in_either r rows more i) [
+        | inl j ↦ AllHold-at_in rows p first r j
+        | inr j ↦ AllHold-at_in (left ++ more) p both r (in_right r left more j)
+      ]);
 }
 
 -- each row of the first list is kept, or holds wherever the kept ones do
@@ -52,23 +52,23 @@ left_by rows left among each = record { among = among; enough = λ p d h. AllHol
 -- a row that holds wherever the others do is dropped
 pub left_dropped : (rows : List Row) (r : Row) → ((p : Point) → pos 0 <ℤ p.den → AllHold rows p → Holds r p) → IsLeft (rows ++ r ∷ []) rows
 left_dropped rows r implied = left_by (rows ++ r ∷ []) rows (λ s i. in_left s rows (r ∷ []) i) (λ p d h s i.
-  elim (in_either s rows (r ∷ []) i) [
-    | inl j ↦ AllHold-at_in rows p h s j
-    | inr j ↦ elim j [ inl e ↦ subst (λ t. Holds t p) (sym e) (implied p d h) | inr k ↦ absurd k ]
-  ])
+    elim (in_either s rows (r ∷ []) i) [
+      | inl j ↦ AllHold-at_in rows p h s j
+      | inr j ↦ elim j [ inl e ↦ subst (λ t. Holds t p) (sym e) (implied p d h) | inr k ↦ absurd k ]
+    ])
 
 -- rows that a further one dominates are dropped
 pub left_dominated : (rows kept : List Row) (r : Row) → IsAmong kept rows → ((s : Row) → In s rows → In s kept ⊎ IsDominated s r) →
     IsLeft (rows ++ r ∷ []) (kept ++ r ∷ [])
 left_dominated rows kept r among each = left_by (rows ++ r ∷ []) (kept ++ r ∷ [])
-  (λ s i. elim (in_either s kept (r ∷ []) i) [ inl j ↦ in_left s rows (r ∷ []) (among s j) | inr j ↦ in_right s rows (r ∷ []) j ])
-  (λ p d h s i. elim (in_either s rows (r ∷ []) i) [
-    | inl j ↦ elim (each s j) [
+    (λ s i. elim (in_either s kept (r ∷ []) i) [ inl j ↦ in_left s rows (r ∷ []) (among s j) | inr j ↦ in_right s rows (r ∷ []) j ])
+    (λ p d h s i. elim (in_either s rows (r ∷ []) i) [
+      | inl j ↦ elim (each s j) [
         | inl k ↦ AllHold-at_in (kept ++ r ∷ []) p h s (in_left s kept (r ∷ []) k)
         | inr k ↦ Holds-dominated s r p k d (AllHold-at_in (kept ++ r ∷ []) p h r (in_right r kept (r ∷ []) (inl refl)))
       ]
-    | inr j ↦ AllHold-at_in (kept ++ r ∷ []) p h s (in_right s kept (r ∷ []) j)
-  ])
+      | inr j ↦ AllHold-at_in (kept ++ r ∷ []) p h s (in_right s kept (r ∷ []) j)
+    ])
 
 -- rows that are left are as wide
 pub left_wide : (w : ℕ) (rows left : List Row) → AllWide w rows → IsLeft rows left → AllWide w left

@@ -81,9 +81,9 @@ last_level w rows wide = record {
   free = λ x h g. absurd (omega arith);
   plain = (let e : w - w ≡ 0 = omega arith in subst (λ n. IsAmong rows (eliminated_each (columns_down w n) rows)) (sym e) (λ r i. i));
   same = λ p d l.
-    let e : w + 0 ≡ w = omega arith in
-    let wide' : AllWide (w + 0) rows = subst (λ n. AllWide n rows) (sym e) wide in
-    subst (λ n. AllHold rows p ↔ SomeValuesHold n w rows p) e (columns_projected w 0 rows p wide' (l ∙ sym e) d);
+      let e : w + 0 ≡ w = omega arith in
+      let wide' : AllWide (w + 0) rows = subst (λ n. AllWide n rows) (sym e) wide in
+      subst (λ n. AllHold rows p ↔ SomeValuesHold n w rows p) e (columns_projected w 0 rows p wide' (l ∙ sym e) d);
 }
 
 -- the law of several columns, in the width
@@ -115,15 +115,15 @@ level_step w c rows next left h wide level projection =
       plain = among;
       same = λ p d l. (
         λ all.
-          let (m, hm, same, holds) = (projection.same p d l).0 all in
-          let lm : length m.num ≡ w = sym (length-same_but c p m same) ∙ l in
-          let some = (level.same m hm lm).0 holds in
-          let before = (columns_law w (c + 1) rows m (omega arith) wide lm hm).1 some in
-          let here = (column_projected c w (plain w (c + 1) rows) p h (each_wide w (columns_down (c + 1) (w - (c + 1))) rows wide) l d).1 (m, hm, same, before) in
-          (columns_law w c rows p (omega arith) wide l d).0 (subst (λ rs. AllHold rs p) (sym (plain_next w c rows h)) here),
+            let (m, hm, same, holds) = (projection.same p d l).0 all in
+            let lm : length m.num ≡ w = sym (length-same_but c p m same) ∙ l in
+            let some = (level.same m hm lm).0 holds in
+            let before = (columns_law w (c + 1) rows m (omega arith) wide lm hm).1 some in
+            let here = (column_projected c w (plain w (c + 1) rows) p h (each_wide w (columns_down (c + 1) (w - (c + 1))) rows wide) l d).1 (m, hm, same, before) in
+            (columns_law w c rows p (omega arith) wide l d).0 (subst (λ rs. AllHold rs p) (sym (plain_next w c rows h)) here),
         λ s.
-          let all = (columns_law w c rows p (omega arith) wide l d).1 s in
-          AllHold-from_in left p (λ r i. AllHold-at_in (plain w c rows) p all r (among r i)),
+            let all = (columns_law w c rows p (omega arith) wide l d).1 s in
+            AllHold-from_in left p (λ r i. AllHold-at_in (plain w c rows) p all r (among r i)),
       );
     }
 
@@ -166,6 +166,7 @@ levels_step c next s left systems e h wide levels sized projection = record {
     first_level : IsLevel s.width (c + 1) s.rows (slice_index_or systems 0 no_system).rows
     first_level = let f : next + 0 ≡ c + 1 = omega arith in
         subst (λ n. IsLevel s.width n s.rows (slice_index_or systems 0 no_system).rows) f (levels.each 0 (omega arith))
+
     each : (i : ℕ) → c + i ≤ s.width → IsLevel s.width (c + i) s.rows (slice_index_or (left ∷ systems) i no_system).rows
     each zero g = let f : c ≡ c + 0 = omega arith in
         subst (λ n. IsLevel s.width n s.rows left.rows) f (level_step s.width c s.rows (slice_index_or systems 0 no_system).rows left.rows h wide first_level projection)
@@ -180,7 +181,7 @@ levels_at s systems c d e levels = subst (λ n. AreLevels n s (record { first = 
 -- ---- one more level before the first one
 
 module _ (c : ℕ) (s head : System) (systems : List System) (within : c < s.width)
-  (levels : AreLevels (c + 1) s (record { first = c + 1; systems = systems })) (at : head ≡ get_or systems 0 head) where
+    (levels : AreLevels (c + 1) s (record { first = c + 1; systems = systems })) (at : head ≡ get_or systems 0 head) where
   some_level : 0 < length systems
   some_level = let n = levels.one_for_each in omega (arith, n)
 

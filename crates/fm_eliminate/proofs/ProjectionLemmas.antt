@@ -46,7 +46,7 @@ projection_by w x rows left h wide among complete = record {
   same = λ p d l. (
     complete p d l,
     λ s. let plain = (column_projected x w rows p h wide l d).1 s in
-    AllHold-from_in left p (λ r i. AllHold-at_in (eliminated x rows) p plain r (among r i)),
+        AllHold-from_in left p (λ r i. AllHold-at_in (eliminated x rows) p plain r (among r i)),
   );
 }
 

@@ -108,7 +108,7 @@ complete x w rows lower upper p h wide pivot lp hp all =
       hq,
       SameBut-with_number (unsigned_abs (coef_at x lower)) p x (rest x lower p),
       AllHold-from_in rows (solution x lower p) (λ r i. solution-Holds x w rows lower upper r p h wide pivot lp hp hq i
-      (AllHold-at_in (map (replaced x lower upper) rows) p all (replaced x lower upper r) (in_map (replaced x lower upper) r rows i))),
+          (AllHold-at_in (map (replaced x lower upper) rows) p all (replaced x lower upper r) (in_map (replaced x lower upper) r rows i))),
     )
 
 -- what is left of the rows that stand in the place of others
@@ -119,8 +119,7 @@ pivot_projection w x rows left lower upper h wide pivot l =
     let up = above x rows lower upper (omega arith) pivot in
     projection_by w x rows left h wide
     (λ r i. let m = out_map (replaced x lower upper) r rows (l.among r i) in
-      subst (λ s. In s (eliminated x rows)) (sym m.2) (among_plain x rows lower upper m.0 pivot up m.1))
+    subst (λ s. In s (eliminated x rows)) (sym m.2) (among_plain x rows lower upper m.0 pivot up m.1))
     (λ p d s all. complete x w rows lower upper p h wide pivot s d (l.enough p d all))
 
 -- ---- the equation itself is dropped
-

@@ -37,7 +37,13 @@ fn replace(row: &Row, lower: &Row, upper: &Row, x: usize) -> Result<Row, Passes>
 }
 
 /// Adds the rows, each replaced where it has a coefficient in column `x`.
-fn add_replaced(kept: &mut Vec<Row>, rows: &[Row], lower: &Row, upper: &Row, x: usize) -> Result<(), RowFault>
+fn add_replaced(
+    kept: &mut Vec<Row>,
+    rows: &[Row],
+    lower: &Row,
+    upper: &Row,
+    x: usize,
+) -> Result<(), RowFault>
     requires within { x < length lower.now.coef }
     requires wide { AllWide (length lower.now.coef) rows.now }
     requires pivot { IsPivot x rows.now lower.now upper.now }
@@ -119,7 +125,13 @@ impl System {
         Ok(System::of_rows(self.width(), left))
     }
 
-    fn left_of_equation(&self, alloc: Global, lower: &Row, upper: &Row, x: usize) -> Result<Vec<Row>, RowFault>
+    fn left_of_equation(
+        &self,
+        alloc: Global,
+        lower: &Row,
+        upper: &Row,
+        x: usize,
+    ) -> Result<Vec<Row>, RowFault>
         requires within { x < self.now.width }
         requires pivot { IsPivot x self.now.rows lower.now upper.now }
         ensures ok { IfOk result (λ v. IsProjection self.now.width x self.now.rows v.items) }

@@ -7,7 +7,6 @@ mod elimination;
 mod equality;
 mod holding;
 mod kept_rows;
-
 mod moves;
 mod pivots;
 mod systems;

@@ -32,7 +32,12 @@ impl System {
     }
 }
 
-fn placed_rows(alloc: Global, rows: &[Row], to: &[usize], width: usize) -> Result<Vec<Row>, AllocError>
+fn placed_rows(
+    alloc: Global,
+    rows: &[Row],
+    to: &[usize],
+    width: usize,
+) -> Result<Vec<Row>, AllocError>
     requires sized { AllWide (length to.now) rows.now }
     requires distinct { AreDistinct to.now }
     requires within { All (λ x. x < width) to.now }

@@ -3,7 +3,7 @@ use Rattle.std.proofs.Common.{◌≡◌, [], ◌∷◌, codes, refl, true, false
 use Rattle.std.specs.Fmt.{digits}
 use Rattle.csv.proofs.OnLiterals.{csv_on_literals}
 use Rattle.log_specs.specs.Fields.{fields_of, is_long}
-use Rattle.run_specs.specs.RunTexts.{run_text}
+use Rattle.replay_specs.specs.RunTexts.{run_text}
 use Rattle.log_specs.specs.Examples.{thirds, thirds_text, below_zero, below_zero_text}
 
 pub fields : (fields_of (codes "open, a b ,\"x,y\",") ≡ codes "open" ∷ codes "a b" ∷ codes "x,y" ∷ [] ∷ []) × (fields_of [] ≡ [] ∷ [])

@@ -15,7 +15,7 @@ use Rattle.log_specs.specs.declared.Refusal.TheVariants as why
 use Rattle.log_specs.specs.declared.RunsMode.{RunsMode}
 use Rattle.log_specs.specs.declared.RunsMode.TheVariants as mode
 use Rattle.log_specs.specs.LogSessions.{LogSession, Judgement, passed_over, refused, opened, closed, flushed, accepted}
-use Rattle.run_specs.specs.RunTexts.{run_lines, ended_lines}
+use Rattle.replay_specs.specs.RunTexts.{run_lines, ended_lines}
 
 -- what a report is made for: how the log is read, the automata of the file, the jumps allowed in each gap, and which runs are printed
 pub record Task : Type 0 where

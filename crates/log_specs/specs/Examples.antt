@@ -8,7 +8,7 @@ use Rattle.run_specs.specs.declared.Verdict.{Verdict}
 use Rattle.run_specs.specs.declared.Verdict.TheVariants.{Impossible}
 use Rattle.log_specs.specs.declared.LogForm.{LogForm}
 use Rattle.log_specs.specs.declared.RunsMode.TheVariants.{First}
-use Rattle.run_specs.specs.RunTexts.{ended_lines}
+use Rattle.replay_specs.specs.RunTexts.{ended_lines}
 use Rattle.log_specs.specs.Blocks.{Task}
 
 -- an automaton of one variable and no location, so that no log has a run

@@ -5,7 +5,7 @@ ghost use Rattle.report_specs.specs.Lines.{lines_of};
 ghost use Rattle.report_specs.specs.Report.{IsReport};
 ghost use Rattle.log_specs.specs.declared.LogForm.TheVariants.{Check, Watch};
 ghost use Rattle.log_specs.specs.Fields.{fields_of, is_long};
-ghost use Rattle.run_specs.specs.RunTexts.{run_text};
+ghost use Rattle.replay_specs.specs.RunTexts.{run_text};
 ghost use Rattle.log_specs.specs.Blocks.{printed_run};
 ghost use Rattle.log_specs.specs.LogReports.{rules_of};
 ghost use Rattle.log_specs.specs.Examples.{task_in, refused_log, refused_report, reopened_log, reopened_report, headless_log, headless_report, timed_log, timed_report, number_log, number_report, all_impossible, thirds, thirds_text, below_zero, below_zero_text};

@@ -8,9 +8,9 @@ use Rattle.poly_specs.specs.Arithmetic.{lowest}
 use Rattle.poly_specs.proofs.FractionLemmas.{same-trans}
 use Rattle.poly_specs.proofs.IntLemmas.{product_positive}
 use Rattle.poly_specs.proofs.LowestLemmas.{lowest-same, lowest-IsFraction}
-use Rattle.run_specs.specs.declared.checks.Stop.TheVariants.{Fails, Passes}
+use Rattle.replay_specs.specs.declared.checks.Stop.TheVariants.{Fails, Passes}
 use Rattle.run_specs.specs.Runs.{Leg, Move, GapRun, total}
-use Rattle.run_specs.specs.RunChecks.{Answers, sums_from, length_steps}
+use Rattle.replay_specs.specs.RunChecks.{Answers, sums_from, length_steps}
 use Rattle.run_check.proofs.StepLemmas.{some_passes_not}
 use Rattle.lin_row.proofs.FitLemmas.{AllFit, none_passes, all_fit}
 

@@ -2,13 +2,13 @@
 use Rattle.std.proofs.Common.{◌≡◌, ℕ, zero, suc, ◌-◌, ◌<◌, ◌≤◌, List, ◌++◌, length, get_or, refl, ◌∙◌, ap, arith, Option, Some, None, Ok, Err}
 use Rattle.std.proofs.lemmas.List.{get_or_default}
 use Rattle.poly_specs.specs.Fractions.{Fraction, difference, zero_fraction}
-use Rattle.run_specs.specs.declared.checks.Stop.TheVariants.{Fails}
+use Rattle.replay_specs.specs.declared.checks.Stop.TheVariants.{Fails}
 use Rattle.run_specs.specs.Automaton.{Automaton, width}
 use Rattle.run_specs.specs.Logs.{Sample}
 use Rattle.run_specs.specs.Runs.{GapRun, end_point}
-use Rattle.run_specs.specs.RunChecks.{Step, Answers, IsInRange, join_steps, path_steps, length_steps, near_steps, gap_steps, gap_at, gap_before, sample_at, time_before, GapAnswers, no_gap, no_sample}
-use Rattle.run_specs.proofs.CheckLemmas.{answers_asked, answers_refused, met_asked}
-use Rattle.run_specs.proofs.RunCheckLemmas.{gap_asks}
+use Rattle.replay_specs.specs.RunChecks.{Step, Answers, IsInRange, join_steps, path_steps, length_steps, near_steps, gap_steps, gap_at, gap_before, sample_at, time_before, GapAnswers, no_gap, no_sample}
+use Rattle.replay_specs.proofs.CheckLemmas.{answers_asked, answers_refused, met_asked}
+use Rattle.replay_specs.proofs.RunCheckLemmas.{gap_asks}
 use Rattle.run_check.proofs.StepLemmas.{Leads}
 
 module _ (a : Automaton) (k : ℕ) (before : Option GapRun) (t : Fraction) (s : Sample) (g : GapRun) where

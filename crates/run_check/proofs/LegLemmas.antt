@@ -8,10 +8,10 @@ use Rattle.poly_specs.specs.Lists.{minus}
 use Rattle.poly_specs.specs.Rows.{Row, AllWide}
 use Rattle.run_specs.specs.Runs.{Leg, Move}
 use Rattle.run_specs.specs.Automaton.{Automaton, Location, location_at, transition_at}
-use Rattle.run_specs.specs.declared.checks.Stop.{Stop}
-use Rattle.run_specs.specs.declared.checks.Stop.TheVariants.{Fails, Passes}
-use Rattle.run_specs.specs.RunChecks.{Step, Answers, row_steps, slope_steps, leg_steps, jump_steps}
-use Rattle.run_specs.proofs.CheckLemmas.{answers_asked, answers_refused}
+use Rattle.replay_specs.specs.declared.checks.Stop.{Stop}
+use Rattle.replay_specs.specs.declared.checks.Stop.TheVariants.{Fails, Passes}
+use Rattle.replay_specs.specs.RunChecks.{Step, Answers, row_steps, slope_steps, leg_steps, jump_steps}
+use Rattle.replay_specs.proofs.CheckLemmas.{answers_asked, answers_refused}
 use Rattle.lin_row.proofs.FitLemmas.{AllFit, none_passes, all_fit, AllFit-back, AllFit-append}
 use Rattle.run_check.proofs.StepLemmas.{Leads, some_passes_not}
 

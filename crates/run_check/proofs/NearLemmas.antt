@@ -9,13 +9,13 @@ use Rattle.poly_specs.specs.Fractions.{Fraction, IsFraction, AtMost, DifferAtMos
 use Rattle.poly_specs.specs.Arithmetic.{lowest, least_sum, sum_numbers}
 use Rattle.poly_specs.specs.Rows.{Point, coordinate}
 use Rattle.poly_specs.proofs.LowestLemmas.{lowest-least_sum, least_sum-IsFraction, sum-opposite}
-use Rattle.run_specs.specs.declared.checks.Stop.{Stop}
-use Rattle.run_specs.specs.declared.checks.Stop.TheVariants.{Fails, Passes}
+use Rattle.replay_specs.specs.declared.checks.Stop.{Stop}
+use Rattle.replay_specs.specs.declared.checks.Stop.TheVariants.{Fails, Passes}
 use Rattle.run_specs.specs.Automaton.{Automaton, tolerance_at}
 use Rattle.run_specs.specs.Logs.{cell_at}
 use Rattle.run_specs.specs.Stages.{near_sums}
-use Rattle.run_specs.specs.RunChecks.{Step, Answers, value_steps, near_steps}
-use Rattle.run_specs.proofs.CheckLemmas.{none_formed, answers_then, answers_stop}
+use Rattle.replay_specs.specs.RunChecks.{Step, Answers, value_steps, near_steps}
+use Rattle.replay_specs.proofs.CheckLemmas.{none_formed, answers_then, answers_stop}
 use Rattle.run_specs.proofs.SampleLemmas.{sum_above, sum_below}
 use Rattle.lin_row.proofs.FitLemmas.{none_passes, all_fit, AllFit-front, AllFit-back, AllFit-append}
 use Rattle.run_check.proofs.NumberLemmas.{lowest_at_most}

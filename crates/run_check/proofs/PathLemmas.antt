@@ -2,10 +2,10 @@
 use Rattle.std.proofs.Common.{◌≡◌, ℕ, ◌+◌, ◌<◌, ◌≤◌, Bool, true, false, ◌||◌, List, ◌∷◌, ◌++◌, length, map, drop, get_or, sym, ◌∙◌, ap, subst, append_assoc, ℤ, Result, Ok, Err}
 use Rattle.std.specs.Prelude.{⊤}
 use Rattle.std.proofs.lemmas.List.{drop_more, drop_all}
-use Rattle.run_specs.specs.declared.checks.Stop.{Stop}
+use Rattle.replay_specs.specs.declared.checks.Stop.{Stop}
 use Rattle.run_specs.specs.Automaton.{Automaton, width, location_at, transition_at}
 use Rattle.run_specs.specs.Runs.{Leg, Move, end_loc, goes_unsafe}
-use Rattle.run_specs.specs.RunChecks.{Step, Answers, leg_steps, jump_steps, path_steps}
+use Rattle.replay_specs.specs.RunChecks.{Step, Answers, leg_steps, jump_steps, path_steps}
 use Rattle.run_check.proofs.StepLemmas.{Leads, leads_then, leads_stop}
 
 -- a move's leg and its jump

@@ -5,10 +5,10 @@ use Rattle.std.proofs.lemmas.List.{drop_more, drop_all}
 use Rattle.poly_specs.specs.Bits.{SomePasses, NonePasses}
 use Rattle.poly_specs.specs.Evaluation.{eval_numbers}
 use Rattle.poly_specs.specs.Rows.{Row, Allows, over, row_value}
-use Rattle.run_specs.specs.declared.checks.Stop.{Stop}
-use Rattle.run_specs.specs.declared.checks.Stop.TheVariants.{Passes}
-use Rattle.run_specs.specs.RunChecks.{Step, Answers, row_steps}
-use Rattle.run_specs.proofs.CheckLemmas.{answers_then, answers_stop}
+use Rattle.replay_specs.specs.declared.checks.Stop.{Stop}
+use Rattle.replay_specs.specs.declared.checks.Stop.TheVariants.{Passes}
+use Rattle.replay_specs.specs.RunChecks.{Step, Answers, row_steps}
+use Rattle.replay_specs.proofs.CheckLemmas.{answers_then, answers_stop}
 use Rattle.lin_row.proofs.FitLemmas.{some_passes, none_passes}
 
 -- what the rest answers, all steps answer

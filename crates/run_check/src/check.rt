@@ -5,13 +5,13 @@ ghost use Rattle.number_specs.specs.LogNumbers.{IsLogNumber};
 ghost use Rattle.run_specs.specs.Automaton.{width};
 ghost use Rattle.run_specs.specs.Logs.{IsLog};
 ghost use Rattle.run_specs.specs.Runs.{VisitsUnsafe};
-ghost use Rattle.run_specs.specs.RunChecks.{GapAnswers, StopsAt, HasCount, IsRunOf, IsPlace, PassesAt, IsInRange, IsKeptGap, gap_at, run_of};
+ghost use Rattle.replay_specs.specs.RunChecks.{GapAnswers, StopsAt, HasCount, IsRunOf, IsPlace, PassesAt, IsInRange, IsKeptGap, gap_at, run_of};
 
 use crate::gaps::check_gap;
 use crate::paths::visits_unsafe;
-use crate::runs::Run;
 use lha_model::{Automaton, Log};
-use run_specs::checks::Stop;
+use replay_specs::checks::Stop;
+use run_record::Run;
 
 /// What the check of a run found.
 #[derive(Clone, Copy, Debug, PartialEq, Eq)]

@@ -9,13 +9,13 @@ ghost use Rattle.run_specs.specs.Automaton.{width};
 ghost use Rattle.run_specs.specs.Logs.{IsSample};
 ghost use Rattle.run_specs.specs.Runs.{total, end_point};
 ghost use Rattle.run_specs.specs.Stages.{near_sums};
-ghost use Rattle.run_specs.specs.RunChecks.{Answers, sums_from, length_steps, value_steps, near_steps, IsInRange, IsKeptGap};
+ghost use Rattle.replay_specs.specs.RunChecks.{Answers, sums_from, length_steps, value_steps, near_steps, IsInRange, IsKeptGap};
 
 use crate::numbers::{is_at_most, is_same, kept_sum};
-use crate::runs::GapRun;
 use frac128::Frac;
 use lha_model::{Automaton, Sample};
-use run_specs::checks::Stop;
+use replay_specs::checks::Stop;
+use run_record::GapRun;
 
 /// The sum of the lengths of the gap's legs; `None` where a partial sum passes.
 fn total_length(gap: &GapRun) -> Option<i128>

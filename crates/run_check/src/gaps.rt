@@ -6,18 +6,18 @@ ghost use Rattle.poly_specs.specs.Rows.{over, SamePoint};
 ghost use Rattle.number_specs.specs.LogNumbers.{IsLogNumber};
 ghost use Rattle.run_specs.specs.Automaton.{width, location_at};
 ghost use Rattle.run_specs.specs.Logs.{IsLog};
-ghost use Rattle.run_specs.specs.RunChecks as checks;
-ghost use Rattle.run_specs.specs.RunChecks.{Answers, start_steps, join_steps, gap_at, gap_before, GapAnswers, IsMoveInRange, IsInRange, IsKeptGap};
+ghost use Rattle.replay_specs.specs.RunChecks as checks;
+ghost use Rattle.replay_specs.specs.RunChecks.{Answers, start_steps, join_steps, gap_at, gap_before, GapAnswers, IsMoveInRange, IsInRange, IsKeptGap};
 
 use crate::ends::{lengths_add_up, sample_holds};
 use crate::numbers::is_same;
 use crate::paths::{end_location, path_holds};
 use crate::places::location;
 use crate::rows::rows_hold;
-use crate::runs::{GapRun, Move, Run};
 use frac128::Frac;
 use lha_model::{Automaton, Log};
-use run_specs::checks::Stop;
+use replay_specs::checks::Stop;
+use run_record::{GapRun, Move, Run};
 
 /// Whether the move has as many values as variables, and a transition of the automaton.
 fn is_move_in_range(a: &Automaton, m: &Move) -> bool

@@ -6,15 +6,15 @@ ghost use Rattle.poly_specs.specs.Lists.{minus};
 ghost use Rattle.poly_specs.specs.Rows.{AllWide};
 ghost use Rattle.run_specs.specs.Automaton.{width, location_at};
 ghost use Rattle.run_specs.specs.WellFormed.{IsLocation};
-ghost use Rattle.run_specs.specs.RunChecks.{Answers, asks, slope_steps, leg_steps, jump_steps, IsMoveInRange};
+ghost use Rattle.replay_specs.specs.RunChecks.{Answers, asks, slope_steps, leg_steps, jump_steps, IsMoveInRange};
 
 use crate::numbers::kept_difference;
 use crate::places::{location, transition};
 use crate::rows::rows_hold;
-use crate::runs::{Leg, Move};
 use lha_model::{Automaton, Loc};
 use lin_row::Row;
-use run_specs::checks::Stop;
+use replay_specs::checks::Stop;
+use run_record::{Leg, Move};
 use smallvec::SmallVec;
 use std::alloc::Global;
 

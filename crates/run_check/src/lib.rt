@@ -12,7 +12,6 @@ mod numbers;
 mod paths;
 mod places;
 mod rows;
-mod runs;
 
 pub use check::{RunPasses, Verified, check_run};
-pub use runs::{GapRun, Leg, Move, Run};
+pub use run_record::{GapRun, Leg, Move, Run};

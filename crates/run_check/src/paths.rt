@@ -3,13 +3,13 @@
 ghost use Rattle.std.specs.Prelude.{◌≡◌, ◌<◌, ◌≤◌, ◌++◌, length, pos, ◌<ℤ◌};
 ghost use Rattle.run_specs.specs.Automaton.{width, location_at, transition_at};
 ghost use Rattle.run_specs.specs.Runs.{end_loc, path_of, goes_unsafe};
-ghost use Rattle.run_specs.specs.RunChecks.{Answers, leg_steps, jump_steps, path_steps, IsInRange, IsMoveInRange};
+ghost use Rattle.replay_specs.specs.RunChecks.{Answers, leg_steps, jump_steps, path_steps, IsInRange, IsMoveInRange};
 
 use crate::legs::{jump_holds, leg_holds};
 use crate::places::{location, transition};
-use crate::runs::{GapRun, Move};
 use lha_model::Automaton;
-use run_specs::checks::Stop;
+use replay_specs::checks::Stop;
+use run_record::{GapRun, Move};
 
 /// Asks that the move leads on from these values in location l.
 fn move_holds(a: &Automaton, l: u8, den: i128, from: &[i128], m: &Move) -> Result<(), Stop>

@@ -2,10 +2,10 @@
 
 ghost use Rattle.std.specs.Prelude.{◌≡◌, ◌↔◌, [], ◌∷◌, length, pos, ◌<ℤ◌, IsTrue};
 ghost use Rattle.poly_specs.specs.Rows.{AllWide, Allows};
-ghost use Rattle.run_specs.specs.RunChecks.{Answers, row_steps};
+ghost use Rattle.replay_specs.specs.RunChecks.{Answers, row_steps};
 
 use lin_row::Row;
-use run_specs::checks::Stop;
+use replay_specs::checks::Stop;
 
 /// Whether a row with this mark allows this sum.
 fn is_allowed(strict: bool, sum: i128) -> bool

@@ -6,6 +6,7 @@
 
 ghost use Rattle.std.specs.Prelude.{◌≡◌};
 
+use std::alloc::Global;
 use std::marker::Model;
 
 /// A leg: how long it lasts and where it ends.
@@ -43,6 +44,11 @@ impl Leg {
         ensures { result.now ≡ self.now.at_end }
     {
         self.at_end.as_slice()
+    }
+
+    /// The allocator of its values.
+    pub fn allocator(&self) -> Global {
+        *self.at_end.allocator()
     }
 }
 

@@ -31,9 +31,3 @@ pub mod LeastDenominators
 pub mod RunNumbers
 pub mod PickedValues
 pub mod FirstRunExists
-pub mod IntegerTexts
-pub mod RunTextLines
-pub mod RunTextsApart
-pub mod RunTextGoesOn
-pub mod CheckLemmas
-pub mod RunCheckLemmas

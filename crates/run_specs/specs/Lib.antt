@@ -3,8 +3,6 @@ pub mod Automaton
 pub mod WellFormed
 pub mod Logs
 pub mod Runs
-pub mod RunTexts
-pub mod RunTextFaults
 pub mod Ends
 pub mod Stages
 pub mod Passes
@@ -19,4 +17,3 @@ pub mod SessionHistories
 pub mod StateHistories
 pub mod Sessions
 pub mod Worlds
-pub mod RunChecks

@@ -15,12 +15,10 @@ ghost use Rattle.run_specs.specs.Ends.{SomeLegEnds, SomeJumpEnds, SomeSampleEnds
 ghost use Rattle.run_specs.specs.Passes.{LogPasses, OpeningPasses};
 ghost use Rattle.run_specs.specs.Verdicts.{IsLawful, AreLawful, NoOverflow};
 
-pub mod checks;
 pub mod first_runs;
 pub mod histories;
 pub mod sessions;
 pub mod states;
-pub mod texts;
 pub mod worlds;
 
 /// The reply to a sample.

@@ -1,5 +1,5 @@
 -- What std's `parse` says of an integer of any size.
-use Rattle.std.proofs.Common.{◌≡◌, ℕ, zero, suc, ◌^◌, ◌<◌, ◌≤◌, Bool, true, false, List, [], ◌∷◌, length, drop, get_or, Some, Result, Err, refl, sym, ◌∙◌, ap, subst, arith, ℤ, pos, unsigned_abs, ◌==◌}
+use Rattle.std.proofs.Common.{◌≡◌, ℕ, zero, suc, ◌^◌, ◌<◌, true, false, List, [], ◌∷◌, get_or, Result, Err, refl, sym, ◌∙◌, ap, subst, arith, ℤ, pos, unsigned_abs, ◌==◌}
 use Rattle.std.specs.Int.{w128}
 use Rattle.std.specs.Prelude.{neg_ℤ, not}
 use Rattle.std.specs.Str.{IsUtf8}
@@ -10,8 +10,8 @@ use Rattle.std.proofs.lemmas.Str.{IsUtf8-from_ascii}
 use Rattle.std.specs.Str.{IsAscii}
 use Rattle.std.proofs.lemmas.Str.Parse.{IsNumeralModel, numerals_by_value, tells_digits, parse_signed_digits, parse_signed_minus}
 use Rattle.poly_specs.specs.Bits.{FitsBits}
-use Rattle.run_specs.proofs.IntegerTexts.{IsCounting, Written, Plain, Zero, Minus, written, integer_value, plain_integer, minus_integer, zero_integer, some_is, abs_minus, positive_value}
-use Rattle.run_specs.specs.RunTextFaults.{is_integer, integer_of, is_positive}
+use Rattle.replay_specs.proofs.IntegerTexts.{IsCounting, Written, Plain, Zero, Minus, written, integer_value, plain_integer, minus_integer, zero_integer, some_is, abs_minus, positive_value}
+use Rattle.replay_specs.specs.RunTextFaults.{is_integer, integer_of, is_positive}
 
 own : IsNumeralModel (AllDigits 10) (digits_value 10)
 own = numerals_by_value (AllDigits 10) tells_digits

@@ -1,19 +1,19 @@
 -- What lines write, and what fields they have.
-use Rattle.std.proofs.Common.{◌≡◌, ℕ, zero, suc, ◌+◌, ◌^◌, ◌<◌, ◌≤◌, Bool, true, false, cond, ◌&&◌, ◌==◌, List, [], ◌∷◌, ◌++◌, length, map, get_or, Option, Some, None, refl, sym, ◌∙◌, ap, ap₂, subst, arith, ℤ, pos, negsuc, ◌≤ℤ◌, unsigned_abs, append_assoc, append-nil, All, rules}
-use Rattle.std.specs.Prelude.{decimal, codes, flat_map, nat_lt, Result, Ok, Err, IfOk}
+use Rattle.std.proofs.Common.{◌≡◌, ℕ, zero, suc, ◌^◌, ◌<◌, ◌≤◌, Bool, true, false, cond, ◌&&◌, ◌==◌, List, [], ◌∷◌, ◌++◌, length, map, Option, Some, None, refl, sym, ◌∙◌, ap, ap₂, subst, arith, ℤ, pos, negsuc, ◌≤ℤ◌, unsigned_abs, append_assoc, All, rules}
+use Rattle.std.specs.Prelude.{decimal, codes, flat_map, Result, Ok, Err, IfOk}
 use Rattle.std.specs.Fmt.{signed_decimal}
-use Rattle.std.specs.List.{list_all, slice_split, join_with_byte}
+use Rattle.std.specs.List.{list_all, join_with_byte}
 use Rattle.std.specs.Str.Parse.{signed_digits_value}
-use Rattle.std.proofs.lemmas.Bool.{ltb-true, lt-ltb, le-ltb, lt-leb, le-leb}
+use Rattle.std.proofs.lemmas.Bool.{ltb-true, le-ltb, lt-leb, le-leb}
 use Rattle.std.proofs.lemmas.Int.{ints, to_z-of_z}
 use Rattle.std.specs.Int.{w128}
 use mir.Val.{to_z, of_z, SFits}
-use Rattle.std.proofs.lemmas.List.Splits.{slice_split_none, slice_split_at, join_with_byte-slice_split}
+use Rattle.std.proofs.lemmas.List.Splits.{slice_split_none, join_with_byte-slice_split}
 use Rattle.poly_specs.specs.Bits.{FitsBits}
-use Rattle.run_specs.proofs.IntegerTexts.{both_true, integer_text, integer_value, no_integer, integer_is, integer_lacks, space_is_foreign, some_is}
-use Rattle.run_specs.proofs.RunTextLines.{fits_short, value_fields}
-use Rattle.run_specs.specs.RunTexts.{run_line, gap_line, at_line, stay_line, jump_line, AreWritableValues}
-use Rattle.run_specs.specs.RunTextFaults.{Place, Step, Refused, Outside, Leads, StartLine, GapLine, is_integer, integer_of, integer_in, integer_behind, integers_in, integers_behind, with_integer, integers_of, fields_of, behind, is_positive, is_code, is_kept, if_within, run_step, gap_step, at_step}
+use Rattle.replay_specs.proofs.IntegerTexts.{both_true, integer_text, integer_value, no_integer, integer_lacks, space_is_foreign, some_is}
+use Rattle.replay_specs.proofs.RunTextLines.{fits_short, value_fields}
+use Rattle.replay_specs.specs.RunTexts.{gap_line, at_line, AreWritableValues}
+use Rattle.replay_specs.specs.RunTextFaults.{Place, Refused, Outside, StartLine, is_integer, integer_of, integer_in, integer_behind, integers_in, integers_behind, with_integer, integers_of, fields_of, behind, is_positive, is_code, is_kept, if_within, gap_step, at_step}
 
 -- ---- one integer
 
@@ -224,7 +224,7 @@ values_pass next bytes rest before fields values all h f passes few =
     ap (at_step next) (all_integers (fields_of bytes) all)
     ∙ ap (λ t. cond t (if_within (list_all is_kept read) next) Refused) (le-leb (length read) 6 (omega (arith, same, few)))
     ∙ ap (λ t. if_within t next)
-        (ap (list_all is_kept) (h.whole ∙ ap (λ t. values ++ values_of t) f) ∙ passes_in values (signed_digits_value 10 before) (values_of fields) passes)
+    (ap (list_all is_kept) (h.whole ∙ ap (λ t. values ++ values_of t) f) ∙ passes_in values (signed_digits_value 10 before) (values_of fields) passes)
 
 -- ---- the text of a line of values
 
@@ -257,9 +257,10 @@ pub at_text : (line rest : List ℕ) (zs : List ℤ) → line ≡ codes "at " ++
 at_text line rest [] e h f few = absurd (no_field rest (read_fields (fields_of rest) [] h f))
 at_text line rest (z ∷ zs) e h f few =
     let fields = read_fields (fields_of rest) (z ∷ zs) h f in
-    let size : length (z ∷ zs) ≡ length (fields_of rest) = length-integers (fields_of rest) (z ∷ zs) fields in
-    (e ∙ ap (λ t. codes "at " ++ t) (join_back rest (signed_decimal z ++ flat_map (λ n. codes " " ++ signed_decimal n) zs) (fields ∙ sym (value_fields z zs f))),
-      record { some = omega arith; few = omega (arith, size, few); fit = f })
+    let size : length (z ∷ zs) ≡ length (fields_of rest) = length-integers (fields_of rest) (z ∷ zs) fields in (
+      e ∙ ap (λ t. codes "at " ++ t) (join_back rest (signed_decimal z ++ flat_map (λ n. codes " " ++ signed_decimal n) zs) (fields ∙ sym (value_fields z zs f))),
+      record { some = omega arith; few = omega (arith, size, few); fit = f },
+    )
 
 -- what was collected is what the line says
 pub collected : {E V : Type 0} (items : V → List ℤ) (line rest : List ℕ) (r : Result V E) → line ≡ codes "at " ++ rest → length (fields_of rest) ≤ 6 →

@@ -1,13 +1,13 @@
 -- The lines of a text, one after the other, and its end.
-use Rattle.std.proofs.Common.{◌≡◌, ℕ, zero, suc, ◌+◌, ◌-◌, ◌^◌, ◌<◌, ◌≤◌, Bool, true, false, cond, ◌&&◌, List, [], ◌∷◌, ◌++◌, length, Option, Some, None, refl, sym, ◌∙◌, ap, ap₂, subst, arith, append_assoc, append-nil, length-append, All, ◌==◌, inl, inr}
-use Rattle.std.specs.Prelude.{codes, flat_map, Result, Ok, Err, IfOk, IfErr, nat_lt, ◌⊎◌}
-use Rattle.std.specs.List.{slice_split, onto_first}
+use Rattle.std.proofs.Common.{◌≡◌, ℕ, zero, suc, ◌+◌, ◌^◌, ◌<◌, ◌≤◌, Bool, true, false, cond, ◌&&◌, List, [], ◌∷◌, ◌++◌, length, Some, None, refl, sym, ◌∙◌, ap, ap₂, subst, arith, append_assoc, append-nil, length-append, All, ◌==◌, inl, inr}
+use Rattle.std.specs.Prelude.{flat_map, Result, Ok, Err, IfOk, IfErr, nat_lt, ◌⊎◌}
+use Rattle.std.specs.List.{onto_first}
 use Rattle.std.proofs.lemmas.Bool.{ltb-false, le-ltb}
-use Rattle.run_specs.proofs.RunTextLines.{run_text_has_none}
-use Rattle.run_specs.proofs.RunTextsApart.{texts_tell_apart}
+use Rattle.replay_specs.proofs.RunTextLines.{run_text_has_none}
+use Rattle.replay_specs.proofs.RunTextsApart.{texts_tell_apart}
 use Rattle.run_specs.specs.Runs as runs
-use Rattle.run_specs.specs.RunTexts.{run_line, gap_lines, run_lines, ended_lines, run_text, IsWritable, IsWritableGap, IsWritableLeg}
-use Rattle.run_specs.specs.RunTextFaults.{Place, RunLine, NextLine, Step, Leads, Refused, Outside, Fault, FormAt, RangeAt, step, is_end, fault_at, fault_from, cut_lines, first_fault, IsFirstTextFault}
+use Rattle.replay_specs.specs.RunTexts.{run_line, gap_lines, ended_lines, run_text, IsWritable, IsWritableGap, IsWritableLeg}
+use Rattle.replay_specs.specs.RunTextFaults.{Place, NextLine, Fault, FormAt, RangeAt, step, is_end, fault_at, fault_from, cut_lines, first_fault, IsFirstTextFault}
 use Rattle.run_text.proofs.StateLemmas.{closed, closed_is, ended_lines_are, all_more}
 use Rattle.run_text.specs.States.{later, IsPart, IsReading, lines_of, place_of, Goes}
 use Rattle.run_text.specs.Reading.{located, Finishes, TellsFirst}
@@ -124,14 +124,15 @@ pub finishes : (p : Part) (leg : runs.Leg) (run : List runs.GapRun) → IsPart p
 finishes p leg run h k none gaps =
     let zero_left : later p.whole ≡ 0 = omega (arith, ltb-false 0 (later p.whole) none) in
     let size : length run ≡ length p.whole.gaps.items + 1 = ap length gaps ∙ length-append p.whole.gaps.items (closed p leg ∷ []) in
-    let count : length run ≡ p.whole.count = omega (arith, size, zero_left, h.whole.more) in
-    (record {
+    let count : length run ≡ p.whole.count = omega (arith, size, zero_left, h.whole.more) in (
+      record {
         some = omega (arith, size);
         few = subst (λ c. c < 2 ^ 32) (sym count) h.whole.few;
         each = subst (All IsWritableGap) (sym gaps) (all_more IsWritableGap p.whole.gaps.items (closed p leg) h.whole.each (closed_is p leg h k));
       },
       ap₂ (λ c gs. run_line c ∷ flat_map gap_lines gs) count gaps ∙ ended_lines_are p leg,
-      zero_is_end (later p.whole) zero_left)
+      zero_is_end (later p.whole) zero_left,
+    )
 
 -- ---- the text of a run is read as that run
 

@@ -1,17 +1,16 @@
 -- What was read so far, with one line more.
-use Rattle.std.proofs.Common.{◌≡◌, ℕ, zero, suc, ◌+◌, ◌-◌, ◌^◌, ◌<◌, ◌≤◌, List, [], ◌∷◌, ◌++◌, length, Option, Some, None, refl, sym, ◌∙◌, ap, ap₂, subst, arith, ℤ, pos, ◌≤ℤ◌, append_assoc, append-nil, length-append, All, Bool, true, false, get_or}
+use Rattle.std.proofs.Common.{◌≡◌, ℕ, zero, suc, ◌+◌, ◌-◌, ◌^◌, ◌<◌, ◌≤◌, List, [], ◌∷◌, ◌++◌, length, Some, None, refl, sym, ◌∙◌, ap, ap₂, subst, arith, ℤ, append_assoc, append-nil, length-append, All, true, false}
 use Rattle.std.specs.Prelude.{codes, flat_map, Ok, nat_lt}
 use Rattle.std.proofs.lemmas.Bool.{ltb-true, ltb-false}
 use Rattle.poly_specs.specs.Bits.{FitsBits}
-use Rattle.run_specs.proofs.RunTextLines.{at_leads, stay_leads, jump_leads, run_leads, first_gap_leads, next_gap_leads}
-use Rattle.run_specs.specs.RunTexts.{run_line, gap_line, at_line, stay_line, jump_line, leg_lines, move_lines, gap_lines, AreWritableValues, IsWritableLeg, IsWritableMove, IsWritableGap}
-use Rattle.run_specs.specs.RunTextFaults.{Place, RunLine, GapLine, StartLine, StayLine, EndLine, NextLine, AfterLine, Step, Refused, Outside, Leads, step, next_step, gap_step, jump_step, at_step, or_else, behind, integer_in, integer_behind, integers_in, integers_behind}
+use Rattle.replay_specs.proofs.RunTextLines.{at_leads, stay_leads, jump_leads, run_leads, first_gap_leads, next_gap_leads}
+use Rattle.replay_specs.specs.RunTexts.{run_line, gap_line, at_line, stay_line, jump_line, leg_lines, move_lines, gap_lines, AreWritableValues, IsWritableLeg, IsWritableMove, IsWritableGap}
+use Rattle.replay_specs.specs.RunTextFaults.{RunLine, GapLine, StartLine, StayLine, EndLine, NextLine, AfterLine, Step, Refused, Outside, Leads, step, next_step, gap_step, jump_step, or_else, behind, integer_in, integer_behind, integers_behind}
 use Rattle.run_specs.specs.Runs as runs
-use Rattle.run_text.specs.States.{later, IsWhole, IsGapStart, IsPart, IsReading, whole_lines, part_lines, lines_of, place_of, Goes}
+use Rattle.run_text.specs.States.{later, IsWhole, IsGapStart, IsPart, whole_lines, part_lines, lines_of, Goes}
 use Rattle.run_text.specs.Tells.{Tells}
 use Rattle.run_text.specs.declared.lines.GapStart.{GapStart}
 use Rattle.run_text.specs.declared.lines.LineFault.{LineFault}
-use Rattle.run_text.specs.declared.lines.LineFault.TheVariants.{Form, Range, Memory}
 use Rattle.run_text.specs.declared.states.Whole.{Whole}
 use Rattle.run_text.specs.declared.states.Part.{Part}
 use Rattle.run_text.specs.declared.states.State.TheVariants.{Nothing, Counted, Begun, Placed, Staying, Ended, Jumped}
@@ -41,10 +40,11 @@ run_step_of (suc n) line e some few =
 
 pub first_goes : (w : Whole) (line : List ℕ) → w.gaps.items ≡ [] → line ≡ run_line w.count → 1 ≤ w.count → w.count < 2 ^ 32 → Goes Nothing line (Ok (Counted w))
 first_goes w line none e some few =
-    let empty : length w.gaps.items ≡ 0 = ap length none in
-    (record { more = omega (arith, empty, some); few = few; each = all_none IsWritableGap w.gaps.items none },
+    let empty : length w.gaps.items ≡ 0 = ap length none in (
+      record { more = omega (arith, empty, some); few = few; each = all_none IsWritableGap w.gaps.items none },
       ap₂ (λ x xs. x ∷ xs) (sym e) (ap (flat_map gap_lines) none),
-      run_step_of w.count line e some few ∙ ap (λ k. Leads (GapLine (w.count - (k + 1)))) (sym empty))
+      run_step_of w.count line e some few ∙ ap (λ k. Leads (GapLine (w.count - (k + 1)))) (sym empty),
+    )
 
 pub gap_goes : (w : Whole) (g : GapStart) (line : List ℕ) → IsWhole w → IsGapStart g → line ≡ gap_line g.den g.start_loc → Goes (Counted w) line (Ok (Begun w g))
 gap_goes w g line h k e =
@@ -52,11 +52,12 @@ gap_goes w g line h k e =
 
 pub start_goes : (p : Part) (line : List ℕ) → IsWhole p.whole → IsGapStart p.gap → AreWritableValues p.start.items → p.moves.items ≡ [] → line ≡ at_line p.start.items →
     Goes (Begun p.whole p.gap) line (Ok (Placed p))
-start_goes p line h k v none e =
-    (record { whole = h; gap = k; start = v; moves = all_none IsWritableMove p.moves.items none },
-      ap₂ (λ t ms. whole_lines p.whole ++ (gap_line p.gap.den p.gap.start_loc ∷ t ∷ flat_map move_lines ms)) (sym e) none
+start_goes p line h k v none e = (
+  record { whole = h; gap = k; start = v; moves = all_none IsWritableMove p.moves.items none },
+  ap₂ (λ t ms. whole_lines p.whole ++ (gap_line p.gap.den p.gap.start_loc ∷ t ∷ flat_map move_lines ms)) (sym e) none
       ∙ sym (append_assoc (whole_lines p.whole) (gap_line p.gap.den p.gap.start_loc ∷ []) (line ∷ [])),
-      ap (step (StartLine (later p.whole))) e ∙ at_leads (StayLine (later p.whole)) p.start.items v)
+  ap (step (StartLine (later p.whole))) e ∙ at_leads (StayLine (later p.whole)) p.start.items v,
+)
 
 pub stay_goes : (p : Part) (time : ℤ) (line : List ℕ) → IsPart p → FitsBits time → line ≡ stay_line time → Goes (Placed p) line (Ok (Staying p time))
 stay_goes p time line h f e =
@@ -64,16 +65,18 @@ stay_goes p time line h f e =
 
 pub end_goes : (p : Part) (leg : runs.Leg) (line : List ℕ) → IsPart p → FitsBits leg.length_of → AreWritableValues leg.at_end → line ≡ at_line leg.at_end →
     Goes (Staying p leg.length_of) line (Ok (Ended p leg))
-end_goes p leg line h f v e =
-    ((h, record { time = f; at_end = v }),
-      ap (λ t. part_lines p ++ (stay_line leg.length_of ∷ t ∷ [])) (sym e) ∙ sym (append_assoc (part_lines p) (stay_line leg.length_of ∷ []) (line ∷ [])),
-      ap (step (EndLine (later p.whole))) e ∙ at_leads (NextLine (later p.whole)) leg.at_end v)
+end_goes p leg line h f v e = (
+  (h, record { time = f; at_end = v }),
+  ap (λ t. part_lines p ++ (stay_line leg.length_of ∷ t ∷ [])) (sym e) ∙ sym (append_assoc (part_lines p) (stay_line leg.length_of ∷ []) (line ∷ [])),
+  ap (step (EndLine (later p.whole))) e ∙ at_leads (NextLine (later p.whole)) leg.at_end v,
+)
 
 pub jump_goes : (p : Part) (leg : runs.Leg) (e : ℕ) (line : List ℕ) → IsPart p → IsWritableLeg leg → e < 256 → line ≡ jump_line e → Goes (Ended p leg) line (Ok (Jumped p leg e))
-jump_goes p leg e line h k small same =
-    ((h, k, small),
-      ap (λ t. part_lines p ++ (leg_lines leg ++ t ∷ [])) (sym same) ∙ sym (append_assoc (part_lines p) (leg_lines leg) (line ∷ [])),
-      ap (step (NextLine (later p.whole))) same ∙ jump_leads (later p.whole) e small)
+jump_goes p leg e line h k small same = (
+  (h, k, small),
+  ap (λ t. part_lines p ++ (leg_lines leg ++ t ∷ [])) (sym same) ∙ sym (append_assoc (part_lines p) (leg_lines leg) (line ∷ [])),
+  ap (step (NextLine (later p.whole))) same ∙ jump_leads (later p.whole) e small,
+)
 
 -- a move behind the others
 pub after_goes : (p next : Part) (leg : runs.Leg) (e : ℕ) (after : List ℤ) (line : List ℕ) → IsPart p → IsWritableLeg leg → e < 256 → AreWritableValues after → line ≡ at_line after →
@@ -82,19 +85,20 @@ pub after_goes : (p next : Part) (leg : runs.Leg) (e : ℕ) (after : List ℤ) (
 after_goes p next leg e after line h k small v same w g s m =
     let step_made : runs.Move = record { leg = leg; transition = e; after = after } in
     let front : List (List ℕ) = gap_line p.gap.den p.gap.start_loc ∷ at_line p.start.items ∷ flat_map move_lines p.moves.items in
-    let lines : move_lines step_made ≡ (leg_lines leg ++ jump_line e ∷ []) ++ line ∷ [] = ap (λ t. leg_lines leg ++ jump_line e ∷ t ∷ []) (sym same) in
-    (record {
+    let lines : move_lines step_made ≡ (leg_lines leg ++ jump_line e ∷ []) ++ line ∷ [] = ap (λ t. leg_lines leg ++ jump_line e ∷ t ∷ []) (sym same) in (
+      record {
         whole = subst IsWhole (sym w) h.whole;
         gap = subst IsGapStart (sym g) h.gap;
         start = subst (λ x. AreWritableValues x.items) (sym s) h.start;
         moves = subst (All IsWritableMove) (sym m) (all_more IsWritableMove p.moves.items step_made h.moves (record { leg = k; transition = small; after = v }));
       },
       (λ i. whole_lines (w i) ++ (gap_line (g i).den (g i).start_loc ∷ at_line (s i).items ∷ flat_map move_lines (m i)))
-      ∙ ap (λ t. whole_lines p.whole ++ (gap_line p.gap.den p.gap.start_loc ∷ at_line p.start.items ∷ t)) (flat_one move_lines p.moves.items step_made ∙ ap (λ t. flat_map move_lines p.moves.items ++ t) lines)
-      ∙ ap (λ t. whole_lines p.whole ++ t) (sym (append_assoc front (leg_lines leg ++ jump_line e ∷ []) (line ∷ [])))
-      ∙ sym (append_assoc (whole_lines p.whole) (front ++ (leg_lines leg ++ jump_line e ∷ [])) (line ∷ []))
-      ∙ ap (λ t. t ++ line ∷ []) (sym (append_assoc (whole_lines p.whole) front (leg_lines leg ++ jump_line e ∷ []))),
-      ap (step (AfterLine (later p.whole))) same ∙ at_leads (StayLine (later p.whole)) after v ∙ ap (λ t. Leads (StayLine (later t))) (sym w))
+          ∙ ap (λ t. whole_lines p.whole ++ (gap_line p.gap.den p.gap.start_loc ∷ at_line p.start.items ∷ t)) (flat_one move_lines p.moves.items step_made ∙ ap (λ t. flat_map move_lines p.moves.items ++ t) lines)
+          ∙ ap (λ t. whole_lines p.whole ++ t) (sym (append_assoc front (leg_lines leg ++ jump_line e ∷ []) (line ∷ [])))
+          ∙ sym (append_assoc (whole_lines p.whole) (front ++ (leg_lines leg ++ jump_line e ∷ [])) (line ∷ []))
+          ∙ ap (λ t. t ++ line ∷ []) (sym (append_assoc (whole_lines p.whole) front (leg_lines leg ++ jump_line e ∷ []))),
+      ap (step (AfterLine (later p.whole))) same ∙ at_leads (StayLine (later p.whole)) after v ∙ ap (λ t. Leads (StayLine (later t))) (sym w),
+    )
 
 -- ---- a gap behind the others
 
@@ -122,14 +126,18 @@ next_step_of n m g line same k e = ap₂ (λ i l. step (NextLine i) l) same e �
 pub next_gap_goes : (p : Part) (w : Whole) (leg : runs.Leg) (g : GapStart) (line : List ℕ) → IsPart p → IsWritableLeg leg → IsGapStart g → line ≡ gap_line g.den g.start_loc →
     w.count ≡ p.whole.count → w.gaps.items ≡ p.whole.gaps.items ++ closed p leg ∷ [] → 0 < later p.whole → Goes (Ended p leg) line (Ok (Begun w g))
 next_gap_goes p w leg g line h k f e count gaps more =
-    let size : length w.gaps.items ≡ length p.whole.gaps.items + 1 = ap length gaps ∙ length-append p.whole.gaps.items (closed p leg ∷ []) in
-    ((record {
+    let size : length w.gaps.items ≡ length p.whole.gaps.items + 1 = ap length gaps ∙ length-append p.whole.gaps.items (closed p leg ∷ []) in (
+      (
+        record {
           more = omega (arith, size, count, more);
           few = subst (λ c. c < 2 ^ 32) (sym count) h.whole.few;
           each = subst (All IsWritableGap) (sym gaps) (all_more IsWritableGap p.whole.gaps.items (closed p leg) h.whole.each (closed_is p leg h k));
-        }, f),
+        },
+        f,
+      ),
       (λ i. (run_line (count i) ∷ flat_map gap_lines (gaps i)) ++ (sym e i) ∷ []) ∙ ap (λ t. t ++ line ∷ []) (ended_lines_are p leg),
-      next_step_of (later p.whole) (later w) g line (omega (arith, size, count, more)) f e)
+      next_step_of (later p.whole) (later w) g line (omega (arith, size, count, more)) f e,
+    )
 
 -- ---- faults behind a leg
 

@@ -1,8 +1,8 @@
 -- What the reading of a text tells.
 use Rattle.std.specs.Prelude.{◌≡◌, ⊤, ℕ, List, Result, Ok, Err, true, false}
 use Rattle.run_specs.specs.Runs.{GapRun}
-use Rattle.run_specs.specs.RunTexts.{run_lines, IsWritable}
-use Rattle.run_specs.specs.RunTextFaults.{FormAt, RangeAt, IsFirstTextFault, is_end}
+use Rattle.replay_specs.specs.RunTexts.{run_lines, IsWritable}
+use Rattle.replay_specs.specs.RunTextFaults.{FormAt, RangeAt, IsFirstTextFault, is_end}
 use Rattle.run_text.specs.States.{lines_of, place_of}
 use Rattle.run_text.specs.declared.lines.LineFault as lines
 use Rattle.run_text.specs.declared.lines.LineFault.TheVariants as line_faults

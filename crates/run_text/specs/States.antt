@@ -1,8 +1,8 @@
 -- What the reader of a run's text has read so far.
-use Rattle.std.specs.Prelude.{◌≡◌, ⊤, ℕ, ◌+◌, ◌-◌, ◌^◌, ◌<◌, ◌≤◌, List, [], ◌∷◌, ◌++◌, flat_map, length, All, pos, ◌≤ℤ◌, Result, Ok, Err}
+use Rattle.std.specs.Prelude.{◌≡◌, ⊤, ℕ, ◌+◌, ◌-◌, ◌^◌, ◌<◌, List, [], ◌∷◌, ◌++◌, flat_map, length, All, pos, ◌≤ℤ◌, Result, Ok, Err}
 use Rattle.poly_specs.specs.Bits.{FitsBits}
-use Rattle.run_specs.specs.RunTexts.{run_line, gap_line, at_line, stay_line, jump_line, leg_lines, move_lines, gap_lines, AreWritableValues, IsWritableLeg, IsWritableMove, IsWritableGap}
-use Rattle.run_specs.specs.RunTextFaults.{Place, RunLine, GapLine, StartLine, StayLine, EndLine, NextLine, AfterLine, Leads, step}
+use Rattle.replay_specs.specs.RunTexts.{run_line, gap_line, at_line, stay_line, jump_line, leg_lines, move_lines, gap_lines, AreWritableValues, IsWritableLeg, IsWritableMove, IsWritableGap}
+use Rattle.replay_specs.specs.RunTextFaults.{Place, RunLine, GapLine, StartLine, StayLine, EndLine, NextLine, AfterLine, Leads, step}
 use Rattle.run_text.specs.Tells.{Tells}
 use Rattle.run_text.specs.declared.lines.GapStart.{GapStart}
 use Rattle.run_text.specs.declared.lines.LineFault.{LineFault}

@@ -1,6 +1,6 @@
 -- What the reader's answers say, in the words of the definitions of a text's faults.
 use Rattle.std.specs.Prelude.{◌≡◌, ⊤}
-use Rattle.run_specs.specs.RunTextFaults.{Step, Refused, Outside}
+use Rattle.replay_specs.specs.RunTextFaults.{Step, Refused, Outside}
 use Rattle.run_text.specs.declared.lines.LineFault.{LineFault}
 use Rattle.run_text.specs.declared.lines.LineFault.TheVariants.{Form, Range, Memory}
 

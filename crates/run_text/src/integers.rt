@@ -6,7 +6,7 @@ ghost use Rattle.std.specs.Str.{IsUtf8};
 ghost use Rattle.std.specs.Str.Parse.{signed_digits_value};
 ghost use Rattle.poly_specs.specs.Bits.{FitsBits};
 ghost use Rattle.number_specs.specs.Digits as digits;
-ghost use Rattle.run_specs.specs.RunTextFaults as texts;
+ghost use Rattle.replay_specs.specs.RunTextFaults as texts;
 
 /// Whether the byte is 0 to 9.
 fn is_digit(byte: u8) -> bool

@@ -4,9 +4,9 @@ ghost use Rattle.std.specs.Prelude.{◌≡◌, ℕ, ◌+◌, ◌≤◌, ◌<◌,
 ghost use Rattle.std.specs.List.{list_all};
 ghost use Rattle.std.specs.Str.Parse.{signed_digits_value};
 ghost use Rattle.poly_specs.specs.Bits.{FitsBits};
-ghost use Rattle.run_specs.specs.RunTexts.{run_line, gap_line, at_line, stay_line, jump_line, AreWritableValues};
-ghost use Rattle.run_specs.specs.RunTextFaults as texts;
-ghost use Rattle.run_specs.specs.RunTextFaults.{Place, RunLine, GapLine, StayLine, step, gap_step, at_step, stay_step, jump_step, integer_behind, integers_behind, integers_of, fields_of, Refused, Outside};
+ghost use Rattle.replay_specs.specs.RunTexts.{run_line, gap_line, at_line, stay_line, jump_line, AreWritableValues};
+ghost use Rattle.replay_specs.specs.RunTextFaults as texts;
+ghost use Rattle.replay_specs.specs.RunTextFaults.{Place, RunLine, GapLine, StayLine, step, gap_step, at_step, stay_step, jump_step, integer_behind, integers_behind, integers_of, fields_of, Refused, Outside};
 ghost use Rattle.run_text.specs.Tells.{Tells};
 ghost use Rattle.run_text.specs.declared.lines.LineFault.TheVariants.{Memory};
 

@@ -2,7 +2,7 @@
 
 ghost use Rattle.std.specs.Prelude.{◌≡◌, ℕ, ◌+◌, ◌<◌, length, MatchOption, IfSome, IfNone, All, take, slice_index, ◌≢◌, ◌∷◌, [], ◌++◌, ◌==◌, option_map};
 ghost use Rattle.std.specs.List.{slice_split};
-ghost use Rattle.run_specs.specs.RunTextFaults.{behind};
+ghost use Rattle.replay_specs.specs.RunTextFaults.{behind};
 
 use memchr::memchr;
 

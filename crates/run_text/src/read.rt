@@ -2,8 +2,8 @@
 
 ghost use Rattle.std.specs.Prelude.{◌≡◌, ◌⊎◌, ◌+◌, ◌≤◌, ◌^◌, ◌∷◌, [], List, length, IfOk, IfErr, Ok, Err, true, false};
 ghost use Rattle.run_specs.specs.Runs as runs;
-ghost use Rattle.run_specs.specs.RunTexts.{run_lines, run_text, IsWritable};
-ghost use Rattle.run_specs.specs.RunTextFaults.{is_end};
+ghost use Rattle.replay_specs.specs.RunTexts.{run_lines, run_text, IsWritable};
+ghost use Rattle.replay_specs.specs.RunTextFaults.{is_end};
 ghost use Rattle.run_text.specs.States.{IsReading, lines_of, place_of};
 ghost use Rattle.run_text.specs.Reading.{Finishes, located, TellsFirst};
 ghost use Rattle.run_text.specs.declared.read.TextFault.TheVariants as faults;

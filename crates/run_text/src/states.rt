@@ -2,8 +2,8 @@
 
 ghost use Rattle.std.specs.Prelude.{◌≡◌, ◌<◌, ◌+◌, ◌++◌, ◌∷◌, [], OnOk, IfOk, IfErr, true, false, codes, None, nat_lt, List, ℕ};
 ghost use Rattle.run_specs.specs.Runs as runs;
-ghost use Rattle.run_specs.specs.RunTexts.{IsWritableLeg};
-ghost use Rattle.run_specs.specs.RunTextFaults as texts;
+ghost use Rattle.replay_specs.specs.RunTexts.{IsWritableLeg};
+ghost use Rattle.replay_specs.specs.RunTextFaults as texts;
 ghost use Rattle.poly_specs.specs.Bits.{FitsBits};
 ghost use Rattle.run_text.specs.States.{IsWhole, IsGapStart, IsPart, IsReading, Goes, later};
 ghost use Rattle.run_text.specs.declared.lines.LineFault.TheVariants.{Memory};
@@ -189,7 +189,13 @@ fn moved(part: Part, step: Move) -> Result<Part, LineFault>
 }
 
 /// Reads the values after a jump.
-fn after_line(alloc: Global, part: Part, leg: Leg, trans: u8, line: &[u8]) -> Result<State, LineFault>
+fn after_line(
+    alloc: Global,
+    part: Part,
+    leg: Leg,
+    trans: u8,
+    line: &[u8],
+) -> Result<State, LineFault>
     requires part { IsPart part }
     requires leg { IsWritableLeg leg }
     requires trans { trans < 256 }

@@ -2,7 +2,7 @@
 
 ghost use Rattle.std.specs.Prelude.{◌≡◌, ℕ, ◌++◌, List, length, OnOk, IfOk, codes, decimal, flat_map};
 ghost use Rattle.std.specs.Fmt.{signed_decimal};
-ghost use Rattle.run_specs.specs.RunTexts.{at_line, leg_lines, move_lines, gap_lines, run_lines, ended_lines, run_text, IsWritable};
+ghost use Rattle.replay_specs.specs.RunTexts.{at_line, leg_lines, move_lines, gap_lines, run_lines, ended_lines, run_text, IsWritable};
 
 use itoa::Buffer;
 use run_record::{GapRun, Leg, Move, Run};

@@ -1,5 +1,5 @@
 use Rattle.std.proofs.Common.{inl, refl, sym, true≢false}
-use Rattle.run_specs.proofs.RunCheckLemmas.{that_hold, that_fails}
+use Rattle.replay_specs.proofs.RunCheckLemmas.{that_hold, that_fails}
 use Rattle.run_check.proofs.GapLemmas.{in_range_of}
 use Rattle.run_check.proofs.check.check_run.Goals as goal
 

@@ -1,5 +1,5 @@
 use Rattle.std.proofs.Common.{ℕ, ◌<◌, Ok}
-use Rattle.run_specs.specs.RunChecks.{GapAnswers}
+use Rattle.replay_specs.specs.RunChecks.{GapAnswers}
 use Rattle.run_check.proofs.check.first_stop.Given as goal
 
 abbrev pub invariant-loop-i : goal.invariant-loop-i

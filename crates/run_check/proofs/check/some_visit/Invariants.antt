@@ -1,6 +1,6 @@
 use Rattle.std.proofs.Common.{◌≡◌, ℕ, ◌<◌, false}
 use Rattle.run_specs.specs.Runs.{goes_unsafe, path_of}
-use Rattle.run_specs.specs.RunChecks.{gap_at}
+use Rattle.replay_specs.specs.RunChecks.{gap_at}
 use Rattle.run_check.proofs.check.some_visit.Given as goal
 
 abbrev pub invariant-loop-gap : goal.invariant-loop-gap

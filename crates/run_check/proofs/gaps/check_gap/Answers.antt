@@ -2,7 +2,7 @@ use Rattle.std.proofs.Common.{◌≡◌, ◌∙◌, ◌++◌, rules, sym, subst,
 use Rattle.poly_specs.specs.Fractions.{difference}
 use Rattle.number_specs.specs.LogNumbers.{IsLogNumber}
 use Rattle.run_specs.specs.Logs.{Sample}
-use Rattle.run_specs.specs.RunChecks.{join_steps, length_steps, gap_steps, gap_at, gap_before, sample_at, time_before}
+use Rattle.replay_specs.specs.RunChecks.{join_steps, length_steps, gap_steps, gap_at, gap_before, sample_at, time_before}
 use Rattle.run_check.proofs.StepLemmas.{leads_then, leads_stop}
 use Rattle.run_check.proofs.GapLemmas.{path_of_gap, ends_of_gap, sample_of_gap, gap_leads, gap_refused, gap_there, sample_there}
 use Rattle.run_check.proofs.gaps.check_gap.Goals as goal

@@ -2,7 +2,7 @@ use Rattle.std.proofs.Common.{◌≡◌, rules, SFits, arith}
 use Rattle.std.specs.Int.{w128}
 use Rattle.std.proofs.lemmas.Int.{to_z-of_z}
 use Rattle.run_specs.specs.Automaton.{transition_at}
-use Rattle.run_specs.specs.RunChecks.{jump_steps}
+use Rattle.replay_specs.specs.RunChecks.{jump_steps}
 use Rattle.run_check.proofs.StepLemmas.{leads_then, leads_stop}
 use Rattle.run_check.proofs.LegLemmas.{jump_rows, jump_rest, jump_leads, jump_refused}
 use Rattle.run_check.proofs.legs.jump_holds.Goals as goal

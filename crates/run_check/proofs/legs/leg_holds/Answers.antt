@@ -2,7 +2,7 @@ use Rattle.std.proofs.Common.{◌≡◌, ◌≤ℤ◌, pos, rules, SFits, arith}
 use Rattle.std.specs.Int.{w128}
 use Rattle.std.specs.Prelude.{int_lt}
 use Rattle.std.proofs.lemmas.Int.{ints, to_z-of_z}
-use Rattle.run_specs.specs.RunChecks.{row_steps, slope_steps, leg_steps}
+use Rattle.replay_specs.specs.RunChecks.{row_steps, slope_steps, leg_steps}
 use Rattle.run_check.proofs.StepLemmas.{leads_then, leads_stop}
 use Rattle.run_check.proofs.LegLemmas.{leg_rest, leg_leads, leg_refused}
 use Rattle.run_check.proofs.legs.leg_holds.Goals as goal

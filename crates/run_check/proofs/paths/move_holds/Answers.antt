@@ -2,7 +2,7 @@ use Rattle.std.proofs.Common.{◌≡◌, rules, SFits}
 use Rattle.std.specs.Int.{w128}
 use Rattle.std.proofs.lemmas.Int.{to_z-of_z}
 use Rattle.run_specs.specs.Automaton.{location_at}
-use Rattle.run_specs.specs.RunChecks.{leg_steps, jump_steps}
+use Rattle.replay_specs.specs.RunChecks.{leg_steps, jump_steps}
 use Rattle.run_check.proofs.StepLemmas.{leads_all, leads_then, leads_stop}
 use Rattle.run_check.proofs.PathLemmas.{move_steps}
 use Rattle.run_check.proofs.paths.move_holds.Goals as goal

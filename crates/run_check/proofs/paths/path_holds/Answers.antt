@@ -1,7 +1,7 @@
 use Rattle.std.proofs.Common.{◌≡◌, ◌∙◌, sym, rules, SFits, arith}
 use Rattle.std.specs.Int.{w128}
 use Rattle.std.proofs.lemmas.Int.{to_z-of_z}
-use Rattle.run_specs.specs.RunChecks.{path_steps}
+use Rattle.replay_specs.specs.RunChecks.{path_steps}
 use Rattle.run_check.proofs.StepLemmas.{leads_all}
 use Rattle.run_check.proofs.PathLemmas.{path_stop, path_more, path_end}
 use Rattle.run_check.proofs.paths.path_holds.Goals as goal

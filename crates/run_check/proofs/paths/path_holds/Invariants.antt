@@ -1,5 +1,5 @@
 use Rattle.std.proofs.Common.{drop}
-use Rattle.run_specs.specs.RunChecks.{path_steps}
+use Rattle.replay_specs.specs.RunChecks.{path_steps}
 use Rattle.run_check.proofs.PathLemmas.{PathSoFar}
 use Rattle.run_check.proofs.paths.path_holds.Given as goal
 

@@ -1,7 +1,7 @@
 use Rattle.std.proofs.Common.{◌≡◌, rules, SFits}
 use Rattle.std.specs.Int.{w128}
 use Rattle.std.proofs.lemmas.Int.{to_z-of_z}
-use Rattle.run_specs.specs.RunChecks.{row_steps}
+use Rattle.replay_specs.specs.RunChecks.{row_steps}
 use Rattle.run_check.proofs.StepLemmas.{leads_all, rows_more, rows_stop, rows_end}
 use Rattle.run_check.proofs.rows.rows_hold.Goals as goal
 

@@ -1,5 +1,5 @@
 use Rattle.std.proofs.Common.{drop}
-use Rattle.run_specs.specs.RunChecks.{row_steps}
+use Rattle.replay_specs.specs.RunChecks.{row_steps}
 use Rattle.run_check.proofs.StepLemmas.{Leads}
 use Rattle.run_check.proofs.rows.rows_hold.Given as goal
 

@@ -1,7 +1,7 @@
-use Rattle.std.proofs.Common.{◌≡◌, List, [], ◌∷◌, ◌++◌, ℤ, sym, ◌∙◌, ap, subst}
+use Rattle.std.proofs.Common.{◌≡◌, [], ◌∷◌, ◌++◌, sym, ◌∙◌, ap, subst}
 use Rattle.std.specs.Prelude.{All, Some}
 use Rattle.poly_specs.specs.Bits.{FitsBits}
-use Rattle.run_specs.specs.RunTextFaults.{integers_of, fields_of}
+use Rattle.replay_specs.specs.RunTextFaults.{integers_of, fields_of}
 use Rattle.run_text.proofs.LineLemmas.{ValuesSoFar, values_step, values_end, values_pass, fits_stays}
 use Rattle.run_text.proofs.lines.collect.Goals as goal
 
@@ -16,7 +16,7 @@ loop-halves-preserved c =
     let more = c.in_ok-keep.ensures.ok ∙ ap (λ z. c.loop-halves.values.items ++ z ∷ []) (fits_stays c.in-Some-kept.value fits) in
     subst (ValuesSoFar c.args.bytes.now c.in-Some.halves.after.now) (sym more)
     (values_step c.args.bytes.now c.loop-halves.rest.now c.in-Some.halves.before.now c.in-Some.halves.after.now c.loop-halves.values.items c.in-Some-kept.value
-      c.loop-halves.invariant c.in-Some.ensures.pieces value.1 fits)
+    c.loop-halves.invariant c.in-Some.ensures.pieces value.1 fits)
 
 pub returns-in_default-kept-2-clause-fault : goal.returns-in_default-kept-2-clause-fault
 returns-in_default-kept-2-clause-fault c next few =

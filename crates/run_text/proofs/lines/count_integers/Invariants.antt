@@ -1,6 +1,6 @@
 use Rattle.std.proofs.Common.{◌≡◌, ◌+◌, ◌≤◌, length}
 use Rattle.std.specs.List.{list_all}
-use Rattle.run_specs.specs.RunTextFaults.{is_integer, fields_of}
+use Rattle.replay_specs.specs.RunTextFaults.{is_integer, fields_of}
 use Rattle.run_text.proofs.lines.count_integers.Given as goal
 
 abbrev pub invariant-loop-halves : goal.invariant-loop-halves

@@ -1,8 +1,8 @@
 use Rattle.std.proofs.Common.{◌≡◌, subst, sym}
 use Rattle.std.specs.Prelude.{codes}
 use Rattle.poly_specs.specs.Bits.{FitsBits}
-use Rattle.run_specs.proofs.RunTextLines.{fits_short}
-use Rattle.run_specs.specs.RunTexts.{stay_line}
+use Rattle.replay_specs.proofs.RunTextLines.{fits_short}
+use Rattle.replay_specs.specs.RunTexts.{stay_line}
 use Rattle.run_text.proofs.LineLemmas.{integer_line, fits_stays}
 use Rattle.run_text.proofs.lines.read_stay.Goals as goal
 

@@ -6,6 +6,8 @@ pub returns-then-not-is_integer-clause-none : goal.returns-then-not-is_integer-c
 returns-then-not-is_integer-clause-none c = no_single c.args.word.now c.args.line.now c.in_ok-text.text.now c.in_ok-text.ensures.value (search rules)
 
 pub returns-clause-some : goal.returns-clause-some
-returns-clause-some c =
-    (search rules, c.in_ok-text.ensures.whole,
-      one_single c.args.word.now c.args.line.now c.in_ok-text.text.now c.in_ok-text.ensures.value (search rules))
+returns-clause-some c = (
+  search rules,
+  c.in_ok-text.ensures.whole,
+  one_single c.args.word.now c.args.line.now c.in_ok-text.text.now c.in_ok-text.ensures.value (search rules),
+)

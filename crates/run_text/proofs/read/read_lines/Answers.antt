@@ -5,7 +5,7 @@ pub returns-in-Err-clause-fault : goal.returns-in-Err-clause-fault
 returns-in-Err-clause-fault c =
     rw c.located.ensures
     (stop c.args.text.now c.loop-halves.rest.now c.in-Some.halves.before.now c.in-Some.halves.after.now c.loop-halves.state c.loop-halves.line c.in-Err.fault
-      c.loop-halves.invariant c.in-Some.ensures.pieces c.in-Err.ensures)
+    c.loop-halves.invariant c.in-Some.ensures.pieces c.in-Err.ensures)
 
 pub loop-halves-preserved : goal.loop-halves-preserved
 loop-halves-preserved c =

@@ -2,7 +2,7 @@ use Rattle.std.proofs.Common.{sym}
 use Rattle.std.proofs.lemmas.Bool.{ltb-true}
 use Rattle.std.proofs.lemmas.Result.{err_from_is_err_and}
 use Rattle.run_text.specs.States.{later}
-use Rattle.run_text.proofs.StateLemmas.{next_gap_goes, gap_fault, no_gap_left}
+use Rattle.run_text.proofs.StateLemmas.{next_gap_goes, gap_fault}
 use Rattle.run_text.proofs.states.next_gap_line.Goals as goal
 
 pub returns-in_err-gap : goal.returns-in_err-gap

@@ -1,6 +1,6 @@
 use Rattle.std.proofs.Common.{◌≡◌, ◌++◌, take}
 use Rattle.std.specs.Prelude.{flat_map}
-use Rattle.run_specs.specs.RunTexts.{ended_lines, gap_lines}
+use Rattle.replay_specs.specs.RunTexts.{ended_lines, gap_lines}
 use Rattle.run_text.proofs.write.write_gaps.Given as goal
 
 abbrev pub invariant-loop-gap : goal.invariant-loop-gap

@@ -1,6 +1,6 @@
 use Rattle.std.proofs.Common.{◌≡◌, ◌++◌, take}
 use Rattle.std.specs.Prelude.{flat_map}
-use Rattle.run_specs.specs.RunTexts.{ended_lines, move_lines}
+use Rattle.replay_specs.specs.RunTexts.{ended_lines, move_lines}
 use Rattle.run_text.proofs.write.write_moves.Given as goal
 
 abbrev pub invariant-loop-step : goal.invariant-loop-step

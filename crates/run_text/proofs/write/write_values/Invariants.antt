@@ -1,5 +1,5 @@
 use Rattle.std.proofs.Common.{◌≡◌, ◌++◌, take}
-use Rattle.run_specs.specs.RunTexts.{at_line}
+use Rattle.replay_specs.specs.RunTexts.{at_line}
 use Rattle.run_text.proofs.write.write_values.Given as goal
 
 abbrev pub invariant-loop-value : goal.invariant-loop-value

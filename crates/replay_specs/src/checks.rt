@@ -1,12 +1,12 @@
 //! The check of a run that was read decides whether it is a run.
 
 ghost use Rattle.std.specs.Prelude.{◌≡◌, ℕ, ◌<◌, List, length, Result, Ok, Err, ⊤};
-ghost use Rattle.run_specs.specs.declared.checks.Stop.{Stop as HowItStops};
-ghost use Rattle.run_specs.specs.declared.checks.Stop.TheVariants.{Fails};
+ghost use Rattle.replay_specs.specs.declared.checks.Stop.{Stop as HowItStops};
+ghost use Rattle.replay_specs.specs.declared.checks.Stop.TheVariants.{Fails};
 ghost use Rattle.run_specs.specs.Automaton.{Automaton, width};
 ghost use Rattle.run_specs.specs.Logs.{Sample, IsLog};
 ghost use Rattle.run_specs.specs.Runs.{GapRun};
-ghost use Rattle.run_specs.specs.RunChecks.{GapAnswers, HasCount, IsRunOf};
+ghost use Rattle.replay_specs.specs.RunChecks.{GapAnswers, HasCount, IsRunOf};
 
 /// Why the check of a run stops.
 #[derive(Clone, Copy, Debug, PartialEq, Eq)]

@@ -1,5 +1,5 @@
 -- Integers and their texts.
-use Rattle.std.proofs.Common.{◌≡◌, ◌≢◌, ℕ, zero, suc, ◌+◌, ◌*◌, ◌/◌, ◌%◌, ◌^◌, ◌<◌, ◌≤◌, Bool, true, false, cond, ◌&&◌, ◌||◌, ◌==◌, List, [], ◌∷◌, ◌++◌, length, drop, get_or, Option, Some, None, refl, sym, ◌∙◌, ap, ap₂, subst, arith, ℤ, pos, negsuc, unsigned_abs, append-nil, append_assoc, All, length-append, rules}
+use Rattle.std.proofs.Common.{◌≡◌, ◌≢◌, ℕ, zero, suc, ◌+◌, ◌*◌, ◌/◌, ◌%◌, ◌^◌, ◌<◌, ◌≤◌, Bool, true, false, cond, ◌&&◌, ◌||◌, ◌==◌, List, [], ◌∷◌, ◌++◌, length, drop, get_or, Some, None, refl, sym, ◌∙◌, ap, subst, arith, ℤ, pos, negsuc, unsigned_abs, append-nil, append_assoc, All, length-append, rules}
 use lib.ListN.{get_or-append}
 use Rattle.std.specs.Prelude.{decimal, not, neg_ℤ, bytes_eq, codes}
 use Rattle.std.specs.Fmt.{signed_decimal}
@@ -9,9 +9,9 @@ use Rattle.std.specs.Str.Parse.{AllDigits, digits_value, digits_value_after, sig
 use Rattle.std.proofs.lemmas.Bool.{ne_eqb, eqb-true, eq-eqb}
 use Rattle.std.proofs.lemmas.Fmt.{decimal_is_IsNumeral_wide, decimal_digit, decimal_step_wide, decimal_by_steps_wide}
 use Rattle.std.proofs.lemmas.Str.{digit_value_digit}
-use Rattle.std.proofs.lemmas.Str.Parse.{IsNumeralModel, numerals_by_value, digit_from_value, digit_at}
+use Rattle.std.proofs.lemmas.Str.Parse.{IsNumeralModel, numerals_by_value, digit_from_value}
 use Rattle.number_specs.specs.Digits.{is_digit}
-use Rattle.run_specs.specs.RunTextFaults.{is_counting, is_integer, integer_of}
+use Rattle.replay_specs.specs.RunTextFaults.{is_counting, is_integer, integer_of}
 
 -- digits of our own are std's
 own : IsNumeralModel (λ ds. list_all is_digit ds ≡ true) (digits_value 10)

@@ -1,11 +1,11 @@
 -- The texts of two runs differ where the runs do.
-use Rattle.std.proofs.Common.{◌≡◌, ◌≢◌, ℕ, suc, ◌+◌, ◌^◌, ◌<◌, ◌≤◌, List, [], ◌∷◌, ◌++◌, length, get_or, Some, refl, sym, ◌∙◌, ap, ap₂, arith, ℤ, pos, append_assoc, All}
+use Rattle.std.proofs.Common.{◌≡◌, ◌≢◌, ℕ, ◌<◌, List, [], ◌∷◌, ◌++◌, get_or, Some, refl, sym, ◌∙◌, ap, ap₂, arith, ℤ, pos, append_assoc, All}
 use Rattle.std.specs.Prelude.{codes, flat_map}
 use Rattle.poly_specs.specs.Bits.{FitsBits}
-use Rattle.run_specs.proofs.IntegerTexts.{integer_written, number_written}
-use Rattle.run_specs.proofs.RunTextLines.{fits_short, values_in, gap_integers, run_cut, tail_moves, tail_gaps}
-use Rattle.run_specs.specs.RunTexts.{gap_line, at_line, stay_line, jump_line, leg_lines, move_lines, gap_lines, run_lines, run_text, AreWritableValues, IsWritableLeg, IsWritableMove, IsWritableGap, IsWritable}
-use Rattle.run_specs.specs.RunTextFaults.{integer_behind, integers_behind, cut_lines}
+use Rattle.replay_specs.proofs.IntegerTexts.{integer_written, number_written}
+use Rattle.replay_specs.proofs.RunTextLines.{fits_short, values_in, gap_integers, run_cut, tail_moves, tail_gaps}
+use Rattle.replay_specs.specs.RunTexts.{gap_line, at_line, stay_line, jump_line, leg_lines, move_lines, gap_lines, run_text, AreWritableValues, IsWritableLeg, IsWritableMove, IsWritableGap, IsWritable}
+use Rattle.replay_specs.specs.RunTextFaults.{integer_behind, integers_behind, cut_lines}
 use Rattle.run_specs.specs.Runs.{Leg, Move, GapRun}
 
 -- ---- lines

@@ -5,8 +5,8 @@ use Rattle.poly_specs.specs.Fractions.{Fraction, SameFraction, DifferAtMost, zer
 use Rattle.poly_specs.specs.Bits.{FitsBits, SomePasses, NonePasses}
 use Rattle.poly_specs.specs.Rows.{Point, Row, Holds, SamePoint, coordinate, over}
 use Rattle.poly_specs.specs.Evaluation.{eval_numbers}
-use Rattle.run_specs.specs.declared.checks.Stop.{Stop}
-use Rattle.run_specs.specs.declared.checks.Stop.TheVariants.{Fails, Passes}
+use Rattle.replay_specs.specs.declared.checks.Stop.{Stop}
+use Rattle.replay_specs.specs.declared.checks.Stop.TheVariants.{Fails, Passes}
 use Rattle.run_specs.specs.Automaton.{Automaton, Location, width, location_at, transition_at, tolerance_at}
 use Rattle.run_specs.specs.Logs.{Sample, cell_at}
 use Rattle.run_specs.specs.Runs.{Leg, Move, GapRun, Run, IsRun, end_loc, path_of, start_point, end_point, total}

@@ -1,10 +1,10 @@
 -- Every place has lines that lead from it to the end of a run's text.
-use Rattle.std.proofs.Common.{◌≡◌, ℕ, zero, suc, ◌^◌, ◌<◌, ◌≤◌, List, [], ◌∷◌, ◌++◌, length, refl, arith, ℤ, pos, All}
+use Rattle.std.proofs.Common.{◌≡◌, ℕ, zero, suc, List, [], ◌∷◌, ◌++◌, refl, arith, pos, All}
 use Rattle.std.proofs.lemmas.Int.{ints}
 use Rattle.poly_specs.specs.Bits.{FitsBits}
-use Rattle.run_specs.proofs.RunTextLines.{lead_on, at_leads, stay_leads, jump_leads, run_leads, first_gap_leads, next_gap_leads, leg_leads}
-use Rattle.run_specs.specs.RunTexts.{run_line, gap_line, at_line, stay_line, leg_lines, AreWritableValues, IsWritableLeg}
-use Rattle.run_specs.specs.RunTextFaults.{Place, RunLine, GapLine, StartLine, StayLine, EndLine, NextLine, AfterLine, step, Leads, LeadFrom}
+use Rattle.replay_specs.proofs.RunTextLines.{lead_on, at_leads, run_leads, first_gap_leads, next_gap_leads, leg_leads}
+use Rattle.replay_specs.specs.RunTexts.{run_line, gap_line, at_line, leg_lines, AreWritableValues, IsWritableLeg}
+use Rattle.replay_specs.specs.RunTextFaults.{Place, RunLine, GapLine, StartLine, StayLine, EndLine, NextLine, AfterLine, step, Leads, LeadFrom}
 use Rattle.run_specs.specs.Runs.{Leg}
 
 -- one value, 0

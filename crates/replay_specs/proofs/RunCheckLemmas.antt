@@ -9,13 +9,13 @@ use Rattle.std.proofs.lemmas.List.Elements.{All-from_recursion, recursion_from_A
 use Rattle.poly_specs.specs.Lists.{minus}
 use Rattle.poly_specs.specs.Fractions.{Fraction, SameFraction, difference, zero_fraction}
 use Rattle.poly_specs.specs.Rows.{Row, Point, AllHold, SamePoint, coordinate, over}
-use Rattle.run_specs.specs.declared.checks.Stop.TheVariants.{Fails}
+use Rattle.replay_specs.specs.declared.checks.Stop.TheVariants.{Fails}
 use Rattle.run_specs.specs.Automaton.{Automaton, Location, Transition, nowhere, no_transition, width, location_at, transition_at, tolerance_at}
 use Rattle.run_specs.specs.Logs.{Sample, IsLog, IsPassing, cell_at}
 use Rattle.run_specs.specs.Runs.{Leg, Move, GapRun, Place, IsLeg, IsJump, LeadOn, Continues, Follows, IsRun, start_point, end_point, end_of, total}
-use Rattle.run_specs.specs.RunChecks.{Step, row_steps, slope_steps, leg_steps, jump_steps, path_steps, near_steps, IsNear, value_steps, IsMoveInRange, IsInRange, start_steps, join_steps, length_steps, gap_steps, gap_at, sample_at, gap_before, time_before, GapAnswers, HasCount, IsRunOf, run_of}
+use Rattle.replay_specs.specs.RunChecks.{Step, row_steps, slope_steps, leg_steps, jump_steps, path_steps, near_steps, IsNear, value_steps, IsMoveInRange, IsInRange, start_steps, join_steps, length_steps, gap_steps, gap_at, sample_at, gap_before, time_before, GapAnswers, HasCount, IsRunOf, run_of}
 use Rattle.run_specs.proofs.SystemLemmas.{nowhere_holds}
-use Rattle.run_specs.proofs.CheckLemmas.{AllAsked, met_asked, failed_asked, asked_front, asked_back, asked_both, rows_hold, rows_asked}
+use Rattle.replay_specs.proofs.CheckLemmas.{AllAsked, met_asked, failed_asked, asked_front, asked_back, asked_both, rows_hold, rows_asked}
 
 -- ---- legs
 

@@ -2,8 +2,8 @@
 
 ghost use Rattle.std.specs.Prelude.{◌≡◌, ℕ, List, [], ◌∷◌, ◌++◌, None};
 ghost use Rattle.run_specs.specs.Runs.{GapRun};
-ghost use Rattle.run_specs.specs.RunTexts.{run_lines, run_text, IsWritable};
-ghost use Rattle.run_specs.specs.RunTextFaults.{Fault, Place, RunLine, NextLine, LeadFrom, IsFirstTextFault, first_fault};
+ghost use Rattle.replay_specs.specs.RunTexts.{run_lines, run_text, IsWritable};
+ghost use Rattle.replay_specs.specs.RunTextFaults.{Fault, Place, RunLine, NextLine, LeadFrom, IsFirstTextFault, first_fault};
 
 /// A text has at most one first fault.
 pub fn one_first_fault()

@@ -1,15 +1,15 @@
 -- The lines of a run's text: where each leads, and that the text is cut into them.
-use Rattle.std.proofs.Common.{◌≡◌, ℕ, zero, suc, ◌+◌, ◌^◌, ◌<◌, ◌≤◌, Bool, true, false, cond, ◌&&◌, ◌==◌, List, [], ◌∷◌, ◌++◌, length, map, get_or, Option, Some, None, refl, sym, ◌∙◌, ap, ap₂, subst, arith, ℤ, pos, negsuc, ◌≤ℤ◌, unsigned_abs, append-nil, append_assoc, All}
-use Rattle.std.specs.Prelude.{decimal, codes, flat_map, nat_lt, nat_le, not}
+use Rattle.std.proofs.Common.{◌≡◌, ℕ, zero, suc, ◌+◌, ◌^◌, ◌<◌, ◌≤◌, true, false, cond, ◌&&◌, ◌==◌, List, [], ◌∷◌, ◌++◌, length, map, Some, None, refl, sym, ◌∙◌, ap, ap₂, subst, arith, ℤ, pos, negsuc, ◌≤ℤ◌, unsigned_abs, append-nil, append_assoc, All}
+use Rattle.std.specs.Prelude.{decimal, codes, flat_map, nat_lt, not}
 use Rattle.std.specs.Fmt.{signed_decimal}
-use Rattle.std.specs.List.{list_all, slice_split}
-use Rattle.std.proofs.lemmas.Bool.{lt-ltb, le-leb, ne_eqb}
+use Rattle.std.specs.List.{list_all}
+use Rattle.std.proofs.lemmas.Bool.{lt-ltb, le-leb}
 use Rattle.std.proofs.lemmas.Int.{ints}
 use Rattle.std.proofs.lemmas.List.Splits.{slice_split_none, slice_split_at}
 use Rattle.poly_specs.specs.Bits.{FitsBits}
-use Rattle.run_specs.proofs.IntegerTexts.{both_true, not_true, IsForeign, integer_written, number_written, integer_lacks, space_is_foreign, feed_is_foreign}
-use Rattle.run_specs.specs.RunTexts.{run_line, gap_line, at_line, stay_line, jump_line, leg_lines, move_lines, gap_lines, run_lines, ended_lines, run_text, AreWritableValues, IsWritableLeg, IsWritableMove, IsWritableGap, IsWritable}
-use Rattle.run_specs.specs.RunTextFaults.{Place, Step, Leads, Outside, Refused, RunLine, GapLine, StartLine, StayLine, EndLine, NextLine, AfterLine, Fault, FormAt, integer_of, with_integer, integers_of, fields_of, is_kept, is_code, is_positive, if_within, run_step, gap_step, at_step, stay_step, jump_step, or_else, step, LeadFrom, is_end, fault_at, fault_from, cut_lines, first_fault, integers_behind}
+use Rattle.replay_specs.proofs.IntegerTexts.{both_true, not_true, IsForeign, integer_written, number_written, integer_lacks, space_is_foreign, feed_is_foreign}
+use Rattle.replay_specs.specs.RunTexts.{run_line, gap_line, at_line, stay_line, jump_line, leg_lines, move_lines, gap_lines, run_lines, ended_lines, run_text, AreWritableValues, IsWritableLeg, IsWritableMove, IsWritableGap, IsWritable}
+use Rattle.replay_specs.specs.RunTextFaults.{Place, Leads, Refused, RunLine, GapLine, StartLine, StayLine, EndLine, NextLine, AfterLine, integer_of, with_integer, integers_of, fields_of, is_kept, is_positive, if_within, run_step, gap_step, at_step, stay_step, jump_step, or_else, step, LeadFrom, fault_at, fault_from, cut_lines, first_fault, integers_behind}
 use Rattle.run_specs.specs.Runs.{Leg, Move, GapRun}
 
 -- ---- lists without a byte

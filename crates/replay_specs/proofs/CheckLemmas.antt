@@ -5,9 +5,9 @@ use Rattle.std.specs.List.{AllByRecursion}
 use Rattle.std.proofs.lemmas.List.Elements.{All-from_recursion, recursion_from_All}
 use Rattle.poly_specs.specs.Bits.{FitsBits, SomePasses, NonePasses}
 use Rattle.poly_specs.specs.Rows.{Row, Holds, AllHold, over}
-use Rattle.run_specs.specs.declared.checks.Stop.{Stop}
-use Rattle.run_specs.specs.declared.checks.Stop.TheVariants.{Fails}
-use Rattle.run_specs.specs.RunChecks.{Step, asks, Answers, row_steps}
+use Rattle.replay_specs.specs.declared.checks.Stop.{Stop}
+use Rattle.replay_specs.specs.declared.checks.Stop.TheVariants.{Fails}
+use Rattle.replay_specs.specs.RunChecks.{Step, asks, Answers, row_steps}
 
 pub some_or_none : (ns : List ℤ) → SomePasses ns → NonePasses ns → ⊥
 some_or_none ns (k, x, lt, is, passes) h = let fits : FitsBits x = subst FitsBits is (h k x lt) in omega (arith, fits, passes)

@@ -1,5 +1,0 @@
-use Rattle.run_specs.proofs.RunCheckLemmas.{that_hold}
-use Rattle.run_specs.proofs.checks.gaps_that_hold_are_a_run.Goals as goal
-
-pub returns : goal.returns
-returns c = that_hold
