@@ -1,10 +1,10 @@
 -- How wide rows are once their columns are moved or cut.
-use Rattle.std.proofs.Common.{◌≡◌, ℕ, ◌≤◌, List, [], ◌∷◌, length, map, take, set, replicate, refl, sym, ◌∙◌, arith, ℤ, pos}
+use Rattle.std.proofs.Common.{◌≡◌, ℕ, ◌≤◌, List, [], ◌∷◌, length, map, replicate, ◌∙◌, pos}
 use Rattle.std.specs.List.{All}
 use Rattle.std.proofs.lemmas.List.{length-replicate, length-take-le}
 use Rattle.std.proofs.lemmas.List.Elements.{All-nil, All-cons, All-head, All-tail}
 use Rattle.lin_row.proofs.ColumnLemmas.{length-put}
-use Rattle.poly_specs.specs.Columns.{put_at, placed, cut}
+use Rattle.poly_specs.specs.Columns.{placed, cut}
 use Rattle.poly_specs.specs.Rows.{Row, AllWide}
 
 pub placed_wide : (to : List ℕ) (n : ℕ) (rows : List Row) → AllWide n (map (placed to n) rows)

@@ -1,13 +1,13 @@
 -- The combination of an equation's two rows always holds, so that both are dropped.
-use Rattle.std.proofs.Common.{◌≡◌, ℕ, ◌+◌, ◌<◌, ◌≤◌, ◌/◌, Bool, true, false, not, ◌&&◌, ◌||◌, IsFalse, List, [], ◌∷◌, length, map, filter, refl, sym, ◌∙◌, ap, subst, arith, ℤ, pos, neg_ℤ, ◌+ℤ◌, ◌*ℤ◌, ◌<ℤ◌, unsigned_abs}
+use Rattle.std.proofs.Common.{◌≡◌, ℕ, ◌+◌, ◌<◌, ◌≤◌, ◌/◌, Bool, true, false, not, ◌&&◌, ◌||◌, IsFalse, List, [], ◌∷◌, length, map, filter, refl, sym, ◌∙◌, ap, subst, arith, ℤ, pos, neg_ℤ, ◌+ℤ◌, ◌*ℤ◌, unsigned_abs}
 use Rattle.std.specs.Prelude.{int_lt}
 use Rattle.std.specs.List.{list_all}
 use Rattle.std.proofs.lemmas.Int.{ints}
 use Rattle.poly_specs.proofs.CombinationLemmas.{times-divided, divisor-pos}
 use Rattle.poly_specs.proofs.IntLemmas.{mul_neg, zero_cancel}
-use Rattle.poly_specs.specs.Elimination.{gcd, combination, raw_combination, divided, divisor, times, added, lower_factor, upper_factor}
-use Rattle.poly_specs.specs.Lists.{In, plus}
-use Rattle.poly_specs.specs.Rows.{Row, coef_at, AllWide}
+use Rattle.poly_specs.specs.Elimination.{gcd, combination, divided, divisor, times, added, lower_factor, upper_factor}
+use Rattle.poly_specs.specs.Lists.{plus}
+use Rattle.poly_specs.specs.Rows.{Row, coef_at}
 use Rattle.poly_specs.specs.Systems.{negated}
 use Rattle.fm_eliminate.specs.Leaving.{IsPivot, is_zero, always_holds, is_needed, replaced}
 use Rattle.fm_eliminate.proofs.CountLemmas.{two_less}

@@ -1,5 +1,5 @@
 -- What is left of rows where those that say nothing more are dropped.
-use Rattle.std.proofs.Common.{◌≡◌, ◌⊎◌, inl, inr, ℕ, zero, suc, ◌<◌, Bool, true, false, not, ◌&&◌, ◌||◌, List, [], ◌∷◌, ◌++◌, length, get_or, refl, sym, ◌∙◌, ap, subst, arith, ℤ, pos, negsuc, ◌*ℤ◌, unsigned_abs, ◌<ℤ◌}
+use Rattle.std.proofs.Common.{◌≡◌, ◌⊎◌, inl, inr, ℕ, zero, suc, ◌<◌, Bool, true, false, not, ◌&&◌, ◌||◌, List, [], ◌∷◌, ◌++◌, length, get_or, refl, sym, subst, arith, ℤ, pos, negsuc, ◌*ℤ◌, unsigned_abs, ◌<ℤ◌}
 use Rattle.std.proofs.lemmas.List.Elements.{All-nil, All-cons}
 use Rattle.std.specs.Prelude.{int_lt}
 use Rattle.std.proofs.lemmas.Bool.{eqb-true}
@@ -8,12 +8,12 @@ use Rattle.poly_specs.proofs.IntLemmas.{mul_lt_pos}
 use Rattle.poly_specs.proofs.LinearLemmas.{Allows-below}
 use Rattle.std.specs.List.{All, Any, list_all, items_where_true}
 use Rattle.std.specs.List.Retain.{IsFiltered, ReturnsInTurn}
-use Rattle.poly_specs.proofs.EliminationLemmas.{AllHold-from_in, AllHold-at_in, width_in}
+use Rattle.poly_specs.proofs.EliminationLemmas.{AllHold-from_in, AllHold-at_in}
 use Rattle.poly_specs.proofs.InclusionLemmas.{in_left, in_right, in_either}
 use Rattle.poly_specs.proofs.RowLemmas.{Holds-dominated}
 use Rattle.poly_specs.specs.Columns.{IsDominated}
 use Rattle.poly_specs.specs.Lists.{In, IsAmong, dot}
-use Rattle.poly_specs.specs.Rows.{Point, Row, row_value, Allows, Holds, AllHold, AllWide}
+use Rattle.poly_specs.specs.Rows.{Point, Row, row_value, Allows, Holds, AllHold}
 use Rattle.fm_eliminate.specs.Leaving.{IsLeft, is_zero, always_holds}
 
 pub all_from_in : {X : Type 0} (P : X → Type 0) (xs : List X) → ((x : X) → In x xs → P x) → All P xs
@@ -24,9 +24,6 @@ pub in_get_or : {X : Type 0} (xs : List X) (i : ℕ) (d : X) → i < length xs �
 in_get_or [] i d h = absurd (omega arith)
 in_get_or (x ∷ xs) zero d h = inl refl
 in_get_or (x ∷ xs) (suc i) d h = inr (in_get_or xs i d (omega arith))
-
-pub left_same : (rows : List Row) → IsLeft rows rows
-left_same rows = record { among = λ r i. i; enough = λ p d h. h }
 
 -- rows that are left, and more rows, of which again some are left
 pub left_more : (rows left more next : List Row) → IsLeft rows left → IsLeft (left ++ more) next → IsLeft (rows ++ more) next
@@ -69,10 +66,6 @@ left_dominated rows kept r among each = left_by (rows ++ r ∷ []) (kept ++ r �
       ]
       | inr j ↦ AllHold-at_in (kept ++ r ∷ []) p h s (in_right s kept (r ∷ []) j)
     ])
-
--- rows that are left are as wide
-pub left_wide : (w : ℕ) (rows left : List Row) → AllWide w rows → IsLeft rows left → AllWide w left
-left_wide w rows left wide l = all_from_in (λ r. length r.coef ≡ w) left (λ r i. width_in w rows wide r (l.among r i))
 
 -- what a test keeps, and what it drops
 pub retained : {X F : Type 0} (R : F → X → Bool → F → Type 0) (P : X → Type 0) (f : F) →

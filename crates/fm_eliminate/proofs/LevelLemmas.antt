@@ -1,7 +1,6 @@
 -- Levels: what is left of a system without its last columns, one column after the other.
-use Rattle.std.proofs.Common.{◌≡◌, ◌↔◌, ◌⊎◌, inl, inr, ℕ, zero, suc, ◌+◌, ◌-◌, ◌<◌, ◌≤◌, List, [], ◌∷◌, length, map, get_or, refl, sym, ◌∙◌, ap, subst, arith, ℤ, pos, ◌+ℤ◌, ◌*ℤ◌, ◌<ℤ◌, unsigned_abs}
+use Rattle.std.proofs.Common.{◌≡◌, ◌↔◌, inl, inr, ℕ, zero, suc, ◌+◌, ◌-◌, ◌<◌, ◌≤◌, List, [], ◌∷◌, length, get_or, refl, sym, ◌∙◌, ap, subst, arith, pos, ◌*ℤ◌, ◌<ℤ◌, unsigned_abs}
 use Rattle.std.specs.Prelude.{int_lt, ◌==◌, slice_index_or}
-use Rattle.std.specs.List.{All}
 use Rattle.std.proofs.lemmas.Bool.{cases_lt}
 use Rattle.std.proofs.lemmas.Int.{ints}
 use Rattle.std.proofs.lemmas.List.{length-map}
@@ -13,7 +12,7 @@ use Rattle.poly_specs.proofs.InclusionLemmas.{in_left, in_right, in_either, out_
 use Rattle.poly_specs.specs.Bits.{PassesBits, SomePasses}
 use Rattle.poly_specs.specs.Elimination.{combination, raw_combination, times, lower_factor, upper_factor, lowers, uppers, free_of, eliminated, eliminated_each, formed, formed_each, columns_down}
 use Rattle.poly_specs.specs.Lists.{In, IsAmong}
-use Rattle.poly_specs.specs.Rows.{Point, Row, coef_at, AllHold, AllWide, SomeValueHolds, SomeValuesHold}
+use Rattle.poly_specs.specs.Rows.{Point, Row, coef_at, AllHold, AllWide, SomeValuesHold}
 use Rattle.poly_specs.specs.Systems.{System, AreFreeOf, IsProjection, IsLevel, AreLevels, no_system}
 use Rattle.fm_eliminate.proofs.CountLemmas.{any_in}
 use Rattle.fm_eliminate.proofs.LeavingLemmas.{all_from_in}

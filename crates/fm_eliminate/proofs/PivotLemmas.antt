@@ -1,12 +1,12 @@
 -- Equations among rows: how they are found, and what they say.
-use Rattle.std.proofs.Common.{◌≡◌, inl, inr, ℕ, zero, suc, ◌<◌, IsFalse, List, [], ◌∷◌, length, map, get_or, refl, sym, ◌∙◌, ap, subst, arith, ℤ, pos, negsuc, ◌<ℤ◌, neg_ℤ}
+use Rattle.std.proofs.Common.{◌≡◌, inl, inr, ℕ, ◌<◌, IsFalse, List, [], ◌∷◌, length, map, get_or, refl, sym, ◌∙◌, ap, subst, arith, ℤ, pos, ◌<ℤ◌, neg_ℤ}
 use Rattle.std.specs.List.{All}
 use Rattle.std.proofs.lemmas.Int.{ints}
 use Rattle.std.proofs.lemmas.List.{get_or-map}
 use Rattle.std.proofs.lemmas.List.Elements.{All-head, All-tail}
 use Rattle.poly_specs.specs.Lists.{In}
 use Rattle.poly_specs.specs.Rows.{Row, coef_at}
-use Rattle.poly_specs.specs.Systems.{negated, IsEquation}
+use Rattle.poly_specs.specs.Systems.{negated}
 use Rattle.fm_eliminate.specs.Leaving.{IsPivot}
 use Rattle.fm_eliminate.proofs.LeavingLemmas.{in_get_or}
 

@@ -1,25 +1,20 @@
 -- What is left without a column is the projection of the rows.
-use Rattle.std.proofs.Common.{◌≡◌, ◌⊎◌, inl, inr, ℕ, zero, suc, ◌<◌, Bool, true, false, not, ◌||◌, cond, IsFalse, List, [], ◌∷◌, ◌++◌, length, map, get_or, refl, sym, ◌∙◌, ap, subst, arith, ℤ, pos, negsuc, neg_ℤ, ◌+ℤ◌, ◌-ℤ◌, ◌*ℤ◌, ◌<ℤ◌, unsigned_abs}
+use Rattle.std.proofs.Common.{◌≡◌, ◌⊎◌, inl, inr, ℕ, zero, suc, ◌<◌, Bool, true, false, cond, List, ◌++◌, length, refl, sym, ◌∙◌, ap, subst, arith, ℤ, pos, negsuc, ◌<ℤ◌, unsigned_abs}
 use Rattle.std.specs.Prelude.{int_lt, ◌==◌}
-use Rattle.std.specs.List.{flat_map, list_all}
+use Rattle.std.specs.List.{flat_map}
 use Rattle.std.proofs.lemmas.Int.{ints}
 use Rattle.std.proofs.lemmas.Bool.{eq-eqb}
 use Rattle.poly_specs.proofs.ColumnLemmas.{eliminated_wide}
-use Rattle.poly_specs.proofs.CombinationLemmas.{combination_rest, negative, positive, abs_lower, times-divided, divisor-pos}
 use Rattle.poly_specs.proofs.DownLemmas.{column_projected}
-use Rattle.poly_specs.proofs.EliminationLemmas.{AllHold-from_in, AllHold-at_in, width_in, Holds-same_but, test_lower, test_upper, test_free, out_flat_map, out_map, in_map}
-use Rattle.poly_specs.proofs.InclusionLemmas.{in_left, in_right, in_either, in_filter, out_filter, in_flat_map}
-use Rattle.poly_specs.proofs.IntLemmas.{products, expand, mul_neg, product_positive, zero_cancel}
-use Rattle.poly_specs.proofs.LinearLemmas.{Allows-left, Allows-right}
-use Rattle.poly_specs.proofs.ProjectionLemmas.{with_number, value-rest, rest, SameBut-with_number}
+use Rattle.poly_specs.proofs.EliminationLemmas.{AllHold-from_in, AllHold-at_in, width_in, test_lower, test_upper, test_free, out_flat_map, out_map}
+use Rattle.poly_specs.proofs.InclusionLemmas.{in_either, out_filter}
 use Rattle.poly_specs.proofs.RowLemmas.{combination-free}
-use Rattle.poly_specs.specs.Elimination.{combination, raw_combination, divided, divisor, times, lowers, uppers, free_of, eliminated}
-use Rattle.poly_specs.specs.Lists.{In, IsAmong, dot, plus}
-use Rattle.poly_specs.specs.Rows.{Point, Row, row_value, coef_at, Allows, Holds, AllHold, AllWide, SomeValueHolds}
-use Rattle.poly_specs.specs.Systems.{IsProjection, negated}
-use Rattle.fm_eliminate.specs.Leaving.{IsLeft, IsPivot, is_zero, always_holds, is_needed, combinations, replaced}
-use Rattle.fm_eliminate.proofs.LeavingLemmas.{all_from_in, left_more, zero_is}
-use Rattle.fm_eliminate.proofs.PivotLemmas.{coef-negated}
+use Rattle.poly_specs.specs.Elimination.{combination, lowers, uppers, free_of, eliminated}
+use Rattle.poly_specs.specs.Lists.{In, IsAmong}
+use Rattle.poly_specs.specs.Rows.{Point, Row, coef_at, AllHold, AllWide, SomeValueHolds}
+use Rattle.poly_specs.specs.Systems.{IsProjection}
+use Rattle.fm_eliminate.specs.Leaving.{IsLeft, is_zero, combinations, replaced}
+use Rattle.fm_eliminate.proofs.LeavingLemmas.{all_from_in, left_more}
 
 -- ---- plain elimination
 

@@ -1,22 +1,19 @@
 -- Rows that are combined with an equation alone: the projection of the rows.
-use Rattle.std.proofs.Common.{◌≡◌, ◌⊎◌, inl, inr, ℕ, zero, suc, ◌+◌, ◌<◌, ◌≤◌, Bool, true, false, not, ◌&&◌, ◌||◌, IsFalse, List, [], ◌∷◌, length, map, filter, refl, sym, ◌∙◌, ap, subst, arith, ℤ, pos, negsuc, neg_ℤ, ◌+ℤ◌, ◌-ℤ◌, ◌*ℤ◌, ◌<ℤ◌, unsigned_abs}
-use Rattle.std.specs.Prelude.{int_lt, ◌==◌}
-use Rattle.std.specs.List.{list_all}
+use Rattle.std.proofs.Common.{◌≡◌, inl, inr, ℕ, ◌<◌, ◌||◌, List, [], ◌∷◌, length, map, refl, sym, ◌∙◌, ap, subst, arith, ℤ, pos, neg_ℤ, ◌+ℤ◌, ◌*ℤ◌, ◌<ℤ◌, unsigned_abs}
+use Rattle.std.specs.Prelude.{◌==◌}
 use Rattle.std.proofs.lemmas.Int.{ints}
-use Rattle.std.proofs.lemmas.List.{length-map}
-use Rattle.poly_specs.proofs.CombinationLemmas.{combination_rest, negative, positive, abs_lower, times-divided, divisor-pos}
+use Rattle.poly_specs.proofs.CombinationLemmas.{combination_rest, negative, positive, abs_lower}
 use Rattle.poly_specs.proofs.EliminationLemmas.{AllHold-from_in, AllHold-at_in, width_in, Holds-same_but, out_map, in_map}
 use Rattle.poly_specs.proofs.InclusionLemmas.{in_left, in_right, in_filter, in_flat_map}
-use Rattle.poly_specs.proofs.IntLemmas.{products, expand, mul_neg, neg_mul, product_positive, zero_cancel}
+use Rattle.poly_specs.proofs.IntLemmas.{mul_neg, neg_mul, product_positive}
 use Rattle.poly_specs.proofs.LinearLemmas.{Allows-left, Allows-right}
 use Rattle.poly_specs.proofs.ProjectionLemmas.{with_number, value-rest, rest, SameBut-with_number}
-use Rattle.poly_specs.specs.Elimination.{combination, raw_combination, divided, divisor, times, lowers, uppers, free_of, eliminated}
-use Rattle.poly_specs.specs.Lists.{number_at, In, IsAmong, dot, plus}
-use Rattle.poly_specs.specs.Rows.{Point, Row, row_value, coef_at, Allows, Holds, AllHold, AllWide, SomeValueHolds}
+use Rattle.poly_specs.specs.Elimination.{combination, lowers, uppers, free_of, eliminated}
+use Rattle.poly_specs.specs.Lists.{number_at, In, dot}
+use Rattle.poly_specs.specs.Rows.{Point, Row, coef_at, Allows, Holds, AllHold, AllWide, SomeValueHolds}
 use Rattle.poly_specs.specs.Systems.{IsProjection, negated}
-use Rattle.fm_eliminate.specs.Leaving.{IsLeft, IsPivot, is_zero, always_holds, is_needed, replaced}
-use Rattle.fm_eliminate.proofs.CountLemmas.{lower-In, upper-In, two_less}
-use Rattle.fm_eliminate.proofs.LeavingLemmas.{zero_is}
+use Rattle.fm_eliminate.specs.Leaving.{IsLeft, IsPivot, replaced}
+use Rattle.fm_eliminate.proofs.CountLemmas.{lower-In, upper-In}
 use Rattle.fm_eliminate.proofs.PivotLemmas.{coef-negated}
 use Rattle.fm_eliminate.proofs.ProjectionLemmas.{kinds, free-is_zero, replaced_free, replaced_lower, replaced_upper, projection_by}
 

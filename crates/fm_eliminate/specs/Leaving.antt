@@ -19,6 +19,10 @@ is_zero z = unsigned_abs z == 0
 abbrev pub always_holds : Row → Bool
 always_holds r = list_all is_zero r.coef && (int_lt r.cst (pos 0) || (is_zero r.cst && not r.strict))
 
+-- the row does not always hold
+abbrev pub is_needed : Row → Bool
+is_needed r = not (always_holds r)
+
 -- the row itself where it is without x, else its combination with one of a lower and an upper row
 abbrev pub replaced : ℕ → Row → Row → Row → Row
 replaced x lower upper r =
@@ -31,10 +35,6 @@ pub record IsPivot (x : ℕ) (rows : List Row) (lower upper : Row) : Type 0 wher
   pub closed : IsFalse lower.strict
   pub below : coef_at x lower <ℤ pos 0
   pub opposite : upper ≡ negated lower
-
--- the row does not always hold
-abbrev pub is_needed : Row → Bool
-is_needed r = not (always_holds r)
 
 -- the combinations of a lower row with the upper ones
 abbrev pub combinations : ℕ → List Row → Row → List Row

@@ -1,6 +1,6 @@
 //! The levels of a system: what is left in its first columns, one column fewer at a time.
 
-ghost use Rattle.std.specs.Prelude.{◌≡◌, ◌+◌, ◌-◌, ◌<◌, ◌≤◌, ◌∷◌, [], ℕ, All, Err, IfOk, OnOk, length};
+ghost use Rattle.std.specs.Prelude.{◌≡◌, ◌+◌, ◌-◌, ◌<◌, ◌≤◌, ◌∷◌, [], ℕ, All, Err, IfOk, OnOk};
 ghost use Rattle.poly_specs.specs.Bits.{SomePasses};
 ghost use Rattle.poly_specs.specs.Elimination.{formed_each, columns_down};
 ghost use Rattle.poly_specs.specs.Systems.{AreLevels, IsKeptSystem};
@@ -29,7 +29,7 @@ impl Levels {
 impl System {
     /// The system without its last columns, step by step: what is left in the columns before
     /// `first`, before `first + 1` and so on, and at last the system itself. Each is what
-    /// eliminating a column leaves of the next one.
+    /// eliminating a column leaves of the next one. Errors are those of `eliminate`.
     pub fn levels(&self, alloc: Global, first: usize) -> Result<Levels, RowFault>
         requires { first ≤ self.now.width }
         ensures ok { IfOk result (λ l. AreLevels first self.now l) }

@@ -1,6 +1,6 @@
 //! The elimination of one column.
 
-ghost use Rattle.std.specs.Prelude.{◌≡◌, ◌+◌, ◌<◌, ◌≤◌, ◌++◌, [], List, All, Err, IsOk, IfOk, IfErr, OnOk, IsErrOf, length, map, filter, flat_map, pos, ◌<ℤ◌};
+ghost use Rattle.std.specs.Prelude.{◌≡◌, ◌+◌, ◌<◌, ◌≤◌, ◌++◌, List, All, Err, IfOk, IfErr, OnOk, length, map, filter, pos, ◌<ℤ◌};
 ghost use Rattle.std.specs.List.{flat_map};
 ghost use Rattle.poly_specs.specs.Bits.{SomePasses};
 ghost use Rattle.poly_specs.specs.Elimination.{formed, free_of, lowers};
@@ -111,7 +111,10 @@ impl System {
     /// each upper one. The rows without the column come first, in their order, then the
     /// combinations, in the order of the lower rows and for each of the upper ones; with an
     /// equation all stand in the order of the rows. A row that a kept one dominates, or that always
-    /// holds, is left out, and a kept row that a new one dominates is dropped.
+    /// holds, is left out, and a kept row that a new one dominates is dropped. So equal systems
+    /// leave equal ones.
+    ///
+    /// `Passes` where a number that is formed passes 128 bits, and `Memory` where there is none.
     pub fn eliminate(&self, alloc: Global, x: usize) -> Result<System, RowFault>
         requires { x < self.now.width }
         ensures ok { IfOk result (λ s. (s.width ≡ self.now.width) × IsProjection self.now.width x self.now.rows s.rows) }

@@ -1,9 +1,7 @@
 //! Whether a system holds at a point.
 
-ghost use Rattle.std.specs.Prelude.{◌≡◌, ◌<◌, All, Bool, IsTrue, ◌↔◌, length, pos, ◌<ℤ◌, SomeIff, Option};
-ghost use Rattle.poly_specs.specs.Bits.{NonePasses};
-ghost use Rattle.poly_specs.specs.Evaluation.{eval_numbers};
-ghost use Rattle.poly_specs.specs.Rows.{AllWide, Allows, Holds};
+ghost use Rattle.std.specs.Prelude.{◌≡◌, ◌<◌, IsTrue, ◌↔◌, length, Option};
+ghost use Rattle.poly_specs.specs.Rows.{AllWide, Allows};
 ghost use Rattle.poly_specs.specs.Systems.{IsHeld};
 ghost use Rattle.fm_eliminate.specs.Holding.{IsRowHeld};
 

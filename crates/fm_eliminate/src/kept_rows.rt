@@ -1,6 +1,6 @@
 //! Rows that are kept as they are formed, without those that say nothing more.
 
-ghost use Rattle.std.specs.Prelude.{◌≡◌, ◌↔◌, ◌+◌, ◌<◌, ◌≤◌, ◌++◌, ◌∷◌, [], Any, IsTrue, IsFalse, OnOk, OnErr, length, if◌then◌else◌, ◌||◌, ◌&&◌, not, int_lt, pos};
+ghost use Rattle.std.specs.Prelude.{◌≡◌, ◌↔◌, ◌+◌, ◌<◌, ◌≤◌, ◌++◌, ◌∷◌, [], Any, IsTrue, OnOk, OnErr, length, if◌then◌else◌, ◌||◌, ◌&&◌, not, int_lt, pos};
 ghost use Rattle.std.specs.List.{list_all};
 ghost use Rattle.std.specs.Vec.{vec_capacity};
 ghost use Rattle.poly_specs.specs.Columns.{IsDominated};

@@ -10,6 +10,8 @@ mod kept_rows;
 mod moves;
 mod pivots;
 mod systems;
+#[cfg(test)]
+mod tests;
 
 use lin_row::{Passes, Row};
 use std::alloc::AllocError;
@@ -24,8 +26,8 @@ pub enum RowFault {
     Memory,
 }
 
-/// Rows over so many columns, at most 14.
-#[derive(Drop)]
+/// Rows over so many columns, at most 14. It holds at a point where each of its rows does.
+#[derive(Debug, Drop)]
 pub struct System {
     width: usize,
     rows: Vec<Row>,
@@ -42,7 +44,7 @@ impl Model for System {
 }
 
 /// What is left of a system in its first columns, one column more at a time.
-#[derive(Drop)]
+#[derive(Debug, Drop)]
 pub struct Levels {
     first: usize,
     systems: Vec<System>,

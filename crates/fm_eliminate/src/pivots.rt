@@ -1,8 +1,8 @@
 //! Equations: a closed row whose negation stands among the rows.
 
-ghost use Rattle.std.specs.Prelude.{◌≡◌, ◌↔◌, ◌<◌, All, IsTrue, IsFalse, MatchOption, IfSome, IfNone, length, map, neg_ℤ, slice_index_or, pos, ◌<ℤ◌};
+ghost use Rattle.std.specs.Prelude.{◌≡◌, ◌↔◌, ◌<◌, All, IsTrue, MatchOption, length, map, neg_ℤ};
 ghost use Rattle.poly_specs.specs.Lists.{In};
-ghost use Rattle.poly_specs.specs.Rows.{Row as RowValue, AllWide, coef_at};
+ghost use Rattle.poly_specs.specs.Rows.{Row as RowValue};
 ghost use Rattle.poly_specs.specs.Systems.{negated, IsEquation};
 ghost use Rattle.fm_eliminate.specs.Leaving.{IsPivot};
 

@@ -1,6 +1,6 @@
 //! Systems: how they are made, read, joined and copied.
 
-ghost use Rattle.std.specs.Prelude.{◌≡◌, ◌↔◌, ◌≤◌, ◌++◌, IsTrue, SomeIff, OnOk, OnErr, IfOk, length, All};
+ghost use Rattle.std.specs.Prelude.{◌≡◌, ◌↔◌, ◌≤◌, ◌++◌, IsTrue, SomeIff, OnOk, OnErr, IfOk, All};
 ghost use Rattle.poly_specs.specs.KeptRows.{IsKeptRow};
 ghost use Rattle.poly_specs.specs.Rows.{AllWide};
 ghost use Rattle.poly_specs.specs.Systems.{IsKeptSystem};
@@ -21,7 +21,7 @@ impl System {
     }
 
     /// The system of rows that have its width.
-    pub fn of_rows(width: usize, rows: Vec<Row>) -> System
+    pub(crate) fn of_rows(width: usize, rows: Vec<Row>) -> System
         requires few { width ≤ 14 }
         requires wide { AllWide width rows.items }
         ensures { result ≡ record { width = width; rows = rows.items } }

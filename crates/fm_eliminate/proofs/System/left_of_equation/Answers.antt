@@ -1,4 +1,4 @@
-use Rattle.std.proofs.Common.{◌≡◌, ◌<◌, ◌++◌, length, map, filter, sym, subst, arith, ap}
+use Rattle.std.proofs.Common.{◌<◌, ◌++◌, length, map, filter, sym, subst, arith, ap}
 use Rattle.poly_specs.proofs.EliminationLemmas.{width_in}
 use Rattle.poly_specs.specs.Rows.{AllWide}
 use Rattle.fm_eliminate.specs.Leaving.{IsLeft, is_needed, replaced}

@@ -1,5 +1,5 @@
-use Rattle.std.proofs.Common.{◌≡◌, ◌+◌, ◌-◌, ◌<◌, ◌≤◌, ℕ, List, ◌∷◌, [], length, refl, sym, ◌∙◌, ap, subst, arith, rules}
-use Rattle.poly_specs.specs.Systems.{System, AreLevels}
+use Rattle.std.proofs.Common.{◌≡◌, ◌+◌, ◌-◌, sym, subst, arith}
+use Rattle.poly_specs.specs.Systems.{AreLevels}
 use Rattle.fm_eliminate.proofs.LevelLemmas.{levels_start, levels_at}
 use Rattle.fm_eliminate.proofs.System.levels.Goals as goal
 

@@ -1,5 +1,4 @@
 use Rattle.std.proofs.Common.{◌≡◌, ◌≢◌, ℕ, ◌+◌, ◌<◌, ◌++◌, ◌∷◌, [], length, take, sym, subst, arith, rules, pos}
-use Rattle.std.proofs.lemmas.Int.{ints}
 use Rattle.poly_specs.specs.Elimination.{free_of}
 use Rattle.poly_specs.specs.Rows.{coef_at}
 use Rattle.fm_eliminate.specs.Leaving.{IsLeft}

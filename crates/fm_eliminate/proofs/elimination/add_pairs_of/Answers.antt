@@ -1,5 +1,4 @@
-use Rattle.std.proofs.Common.{◌≡◌, ℕ, ◌+◌, ◌<◌, ◌++◌, ◌∷◌, [], length, take, sym, subst, arith, rules, pos, ◌≤ℤ◌, ◌<ℤ◌}
-use Rattle.std.proofs.lemmas.Int.{ints}
+use Rattle.std.proofs.Common.{ℕ, ◌+◌, ◌<◌, ◌++◌, ◌∷◌, [], length, take, sym, subst, arith, rules, pos, ◌≤ℤ◌, ◌<ℤ◌}
 use Rattle.poly_specs.specs.Rows.{coef_at}
 use Rattle.fm_eliminate.specs.Leaving.{IsLeft, combinations}
 use Rattle.fm_eliminate.proofs.CountLemmas.{pair_passes}

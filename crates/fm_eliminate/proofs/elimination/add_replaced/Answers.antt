@@ -1,4 +1,4 @@
-use Rattle.std.proofs.Common.{◌≡◌, ℕ, ◌+◌, ◌<◌, ◌≤◌, ◌++◌, ◌∷◌, [], cond, length, map, take, sym, ◌∙◌, ap, subst, arith}
+use Rattle.std.proofs.Common.{ℕ, ◌+◌, ◌<◌, ◌≤◌, ◌++◌, ◌∷◌, [], cond, length, subst, arith}
 use Rattle.fm_eliminate.specs.Leaving.{IsLeft, always_holds, replaced}
 use Rattle.fm_eliminate.proofs.LoopLemmas.{left_on, few_more, map_taken}
 use Rattle.fm_eliminate.proofs.PivotLemmas.{in_item}

@@ -1,5 +1,4 @@
-use Rattle.std.proofs.Common.{arith, rules, ◌≡◌, length, sym, ◌∙◌, pos, ◌<ℤ◌}
-use Rattle.std.proofs.lemmas.Int.{ints}
+use Rattle.std.proofs.Common.{rules, pos, ◌<ℤ◌}
 use Rattle.std.proofs.lemmas.Result.{IfErr-weaker}
 use Rattle.poly_specs.specs.Rows.{coef_at}
 use Rattle.fm_eliminate.proofs.CountLemmas.{pair_passes}

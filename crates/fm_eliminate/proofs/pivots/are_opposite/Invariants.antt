@@ -1,4 +1,4 @@
-use Rattle.std.proofs.Common.{◌≡◌, ◌≤◌, map, neg_ℤ, take, length}
+use Rattle.std.proofs.Common.{◌≡◌, map, neg_ℤ, take}
 use Rattle.fm_eliminate.proofs.pivots.are_opposite.Given as goal
 
 abbrev pub invariant-loop-i : goal.invariant-loop-i

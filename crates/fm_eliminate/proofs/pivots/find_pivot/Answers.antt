@@ -1,4 +1,4 @@
-use Rattle.std.proofs.Common.{arith, ◌<◌, length}
+use Rattle.std.proofs.Common.{arith}
 use Rattle.poly_specs.specs.Systems.{IsEquation}
 use Rattle.fm_eliminate.proofs.PivotLemmas.{in_item, each_in}
 use Rattle.fm_eliminate.proofs.pivots.find_pivot.Goals as goal

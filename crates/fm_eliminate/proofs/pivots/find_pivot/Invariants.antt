@@ -1,4 +1,4 @@
-use Rattle.std.proofs.Common.{◌≡◌, ℕ, ◌<◌, get_or}
+use Rattle.std.proofs.Common.{ℕ, ◌<◌, get_or}
 use Rattle.poly_specs.specs.Rows.{Row}
 use Rattle.poly_specs.specs.Systems.{IsEquation}
 use Rattle.fm_eliminate.proofs.pivots.find_pivot.Given as goal

@@ -1,4 +1,4 @@
-use Rattle.std.proofs.Common.{arith, ◌≡◌, ◌<◌, length, refl}
+use Rattle.std.proofs.Common.{arith, refl}
 use Rattle.fm_eliminate.proofs.PivotLemmas.{in_item, not_in}
 use Rattle.fm_eliminate.proofs.pivots.negation_of.Goals as goal
 

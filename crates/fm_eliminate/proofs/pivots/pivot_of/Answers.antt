@@ -1,5 +1,4 @@
-use Rattle.std.proofs.Common.{arith, rules, IsFalse, sym, ◌∙◌, pos, ◌<ℤ◌}
-use Rattle.std.proofs.lemmas.Int.{ints}
+use Rattle.std.proofs.Common.{rules, IsFalse, pos, ◌<ℤ◌}
 use Rattle.poly_specs.specs.Rows.{coef_at}
 use Rattle.fm_eliminate.proofs.PivotLemmas.{upper_pivot}
 use Rattle.fm_eliminate.proofs.pivots.pivot_of.Goals as goal
