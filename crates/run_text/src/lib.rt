@@ -10,3 +10,6 @@ mod write;
 
 pub use read::{TextFault, read_run};
 pub use write::write_run;
+
+#[cfg(test)]
+mod tests;
