@@ -1,1 +1,5 @@
 pub mod EmptinessLemmas
+pub mod SumLemmas
+pub mod CapLemmas
+pub mod BoundLemmas
+pub mod DividedLemmas

@@ -1,6 +1,26 @@
-//! What is decided of systems: whether one has a point.
+//! What is decided of systems: whether one has a point, and the bound of a sum over its points.
+//! Each answer is exact.
 #![tactic(auto)]
 
+mod bounds;
+mod caps;
 mod emptiness;
+mod sums;
 
+pub use bounds::sup;
 pub use emptiness::is_empty;
+
+use frac128::Frac;
+
+/// The bound of a sum from above, over the points of a system.
+#[derive(Clone, Copy, Debug, PartialEq, Eq)]
+pub enum Bound {
+    /// The system has no point.
+    Empty,
+    /// The sum exceeds every number.
+    Unbounded,
+    /// The sum is this at some point, and greater at none.
+    Max(Frac),
+    /// The sum is below this at each point, and exceeds each number that is less.
+    Below(Frac),
+}
