@@ -3,3 +3,5 @@ pub mod SumLemmas
 pub mod CapLemmas
 pub mod BoundLemmas
 pub mod DividedLemmas
+pub mod EntailLemmas
+pub mod InclusionLemmas

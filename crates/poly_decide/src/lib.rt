@@ -1,16 +1,19 @@
-//! What is decided of systems: whether one has a point, and the bound of a sum over its points.
-//! Each answer is exact.
+//! What is decided of systems: whether one has a point, the bound of a sum over its points, and
+//! whether it entails a row or includes another system. Each answer is exact.
 #![tactic(auto)]
 
 mod bounds;
 mod caps;
 mod emptiness;
+mod entailment;
+mod inclusion;
 mod sums;
 
 pub use bounds::sup;
 pub use emptiness::is_empty;
-
+pub use entailment::entails;
 use frac128::Frac;
+pub use inclusion::includes;
 
 /// The bound of a sum from above, over the points of a system.
 #[derive(Clone, Copy, Debug, PartialEq, Eq)]
