@@ -8,6 +8,8 @@ mod emptiness;
 mod entailment;
 mod inclusion;
 mod sums;
+#[cfg(test)]
+mod tests;
 
 pub use bounds::sup;
 pub use emptiness::is_empty;

@@ -17,7 +17,7 @@ pub fn system_with_sum(alloc: Global, s: &System, row: &Row) -> Result<System, A
     ensures { IfOk result (λ t. t ≡ record { width = s.now.width + 1; rows = with_sum row.now s.now.rows }) }
 {
     let rows = rows_with_sum(alloc, s.rows(), row)?;
-    Ok(System::of_rows(s.width() + 1, rows))
+    Ok(System::make(s.width() + 1, rows).unwrap())
 }
 
 fn rows_with_sum(alloc: Global, rows: &[Row], row: &Row) -> Result<Vec<Row>, AllocError>
