@@ -1,0 +1,10 @@
+//! Reads the language of models: a text of automata, with its variables, locations and transitions, becomes trees.
+#![tactic(auto)]
+
+mod sequences;
+mod trees;
+
+pub use trees::{
+    ActParts, ActTree, BoundTree, BoundsTree, BoxTree, BoxesTree, Expr, LocTree, RowTree, RowsTree,
+    Sign, Term, TransTree, Tree, Which,
+};
