@@ -11,3 +11,7 @@ pub mod ListSplits
 pub mod LineSplits
 pub mod TextSplits
 pub mod ExampleLimits
+pub mod EachLemmas
+pub mod FrontLemmas
+pub mod CutLemmas
+pub mod TextCuts
