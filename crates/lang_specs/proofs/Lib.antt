@@ -15,3 +15,4 @@ pub mod EachLemmas
 pub mod FrontLemmas
 pub mod CutLemmas
 pub mod TextCuts
+pub mod SoundLemmas
