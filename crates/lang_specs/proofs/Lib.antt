@@ -16,3 +16,5 @@ pub mod FrontLemmas
 pub mod CutLemmas
 pub mod TextCuts
 pub mod SoundLemmas
+pub mod PrintedItems
+pub mod PrintedLists
