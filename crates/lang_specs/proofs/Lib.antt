@@ -18,3 +18,4 @@ pub mod TextCuts
 pub mod SoundLemmas
 pub mod PrintedItems
 pub mod PrintedLists
+pub mod PrintedLines
