@@ -10,7 +10,7 @@ use Rattle.lang_specs.specs.SameTrees.{rows_alone, bounds_alone, loc_alone, tran
 -- ---- lists whose elements are changed where nothing looks
 
 module _ {X : Type 0} (g : X → X) where
-  flat_map_alike : {A : Type 0} (f : X → List A) → ((x : X) → f (g x) ≡ f x) → (xs : List X) → flat_map f (map g xs) ≡ flat_map f xs
+  pub flat_map_alike : {A : Type 0} (f : X → List A) → ((x : X) → f (g x) ≡ f x) → (xs : List X) → flat_map f (map g xs) ≡ flat_map f xs
   flat_map_alike f h [] = refl
   flat_map_alike f h (x ∷ xs) = let e = h x in let k = flat_map_alike f h xs in cc
 
@@ -53,7 +53,7 @@ loc_alike l =
     let c = line_alike kinds.Also l.also in
     simp (a, b, c) refl
 
-row_lists_alike : (t : Tree) → row_lists (tree_alone t) ≡ row_lists t
+pub row_lists_alike : (t : Tree) → row_lists (tree_alone t) ≡ row_lists t
 row_lists_alike t =
     let a = flat_map_alike loc_alone loc_rows loc_rows_alike t.locs in
     let b = map_alike trans_alone (λ e. e.guard) (λ e. refl) t.trans in

@@ -1,5 +1,5 @@
 -- A line that is written of tokens is cut into these tokens.
-use Rattle.std.proofs.Common.{◌≡◌, ℕ, suc, ◌+◌, ◌-◌, Bool, true, false, not, ◌&&◌, ◌||◌, if◌then◌else◌, List, [], ◌∷◌, ◌++◌, length, take, refl, sym, ap, ◌∙◌, subst, arith, append_assoc, append-nil}
+use Rattle.std.proofs.Common.{◌≡◌, ℕ, suc, ◌+◌, ◌-◌, Bool, true, false, not, ◌&&◌, ◌||◌, if◌then◌else◌, List, [], ◌∷◌, ◌++◌, length, take, refl, sym, ap, ◌∙◌, subst, arith}
 use Rattle.std.specs.Prelude.{◌==◌, codes}
 use Rattle.std.specs.Bool.{⊤}
 use Rattle.std.specs.List.{list_all, list_any}
@@ -10,14 +10,13 @@ use Rattle.run_specs.specs.Names.{is_word_byte, begins_as_name, has_name_length,
 use Rattle.lang_specs.specs.declared.Kind.{Kind}
 use Rattle.lang_specs.specs.declared.Kind.TheVariants as kinds
 use Rattle.lang_specs.specs.Words.{spelled, word_kind}
-use Rattle.lang_specs.specs.Tokens.{Placed, Found, is_blank, begins_comment, token_at, end_of_line, placed, behind, cut, line_tokens}
+use Rattle.lang_specs.specs.Tokens.{Found, is_blank, begins_comment, token_at, end_of_line, placed, behind, cut, line_tokens}
 use Rattle.number_specs.specs.Digits.{is_digit}
-use Rattle.lang_specs.specs.Marks.{Mark, has_text, the, mark, Lined, lined, statement}
-use Rattle.lang_specs.specs.Canonical.{written, is_close_before, is_close_behind, leads, spaced, line_text}
+use Rattle.lang_specs.specs.Marks.{Mark, has_text, lined, statement}
+use Rattle.lang_specs.specs.Canonical.{written, is_close_before, is_close_behind, leads, spaced}
 use Rattle.lang_specs.proofs.SplitLemmas.{HeadIn, apart, both_left, both_right, head_front}
 use Rattle.lang_specs.proofs.WordLemmas.{names_are}
-use Rattle.lang_specs.proofs.EachLemmas.{both}
-use Rattle.lang_specs.proofs.FrontLemmas.{is_calm, Begins, IsCalm, Follows, calm_begins, IsFront, IsNumberText, is_keyword, letter_from, digit_from, word_front, sign_is_front, keyword_front, number_front}
+use Rattle.lang_specs.proofs.FrontLemmas.{Begins, IsCalm, Follows, IsFront, IsNumberText, is_keyword, letter_from, digit_from, word_front, sign_is_front, keyword_front, number_front}
 
 -- ---- what can be written
 

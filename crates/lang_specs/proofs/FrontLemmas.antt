@@ -1,5 +1,5 @@
 -- The token at the front of bytes that were written for it.
-use Rattle.std.proofs.Common.{◌≡◌, ◌⊎◌, inl, inr, ℕ, suc, ◌+◌, ◌^◌, ◌<◌, ◌≤◌, ℤ, pos, negsuc, Bool, true, false, cond, not, ◌&&◌, ◌||◌, if◌then◌else◌, List, [], ◌∷◌, ◌++◌, length, take, drop, Some, None, refl, sym, ap, ◌∙◌, subst, arith, append_assoc, append-nil}
+use Rattle.std.proofs.Common.{◌≡◌, ◌⊎◌, inl, inr, ℕ, suc, ◌+◌, ◌^◌, ◌<◌, ◌≤◌, ℤ, pos, negsuc, Bool, true, false, cond, not, ◌&&◌, ◌||◌, if◌then◌else◌, List, [], ◌∷◌, ◌++◌, length, take, drop, Some, refl, sym, ap, ◌∙◌, subst, arith, append_assoc}
 use Rattle.std.specs.Prelude.{◌==◌, nat_le, max, decimal}
 use Rattle.std.specs.Str.Parse.{AllDigits}
 use Rattle.std.specs.Bool.{⊤}
@@ -20,7 +20,7 @@ use Rattle.run_specs.specs.Names.{is_letter, is_word_byte, begins_as_name}
 use Rattle.lang_specs.specs.declared.Kind.{Kind}
 use Rattle.lang_specs.specs.declared.Kind.TheVariants as kinds
 use Rattle.lang_specs.specs.Words.{spelled, word_kind, sign_kind}
-use Rattle.lang_specs.specs.Tokens.{Found, is_blank, begins_comment, begins_word, word_len, digits_len, tail_len, literal_len, kind_of_literal, literal_kind, word_at, literal_at, sign_at, token_at}
+use Rattle.lang_specs.specs.Tokens.{is_blank, begins_comment, begins_word, word_len, digits_len, tail_len, literal_len, kind_of_literal, literal_kind, word_at, literal_at, sign_at, token_at}
 use Rattle.lang_specs.proofs.SplitLemmas.{apart, both_left, both_right}
 use Rattle.lang_specs.proofs.EachLemmas.{both}
 
@@ -53,12 +53,15 @@ one_or false b h = inr h
 calm_at : (p : ℕ → Bool) (b : Bool) → p 32 ≡ b → p 44 ≡ b → p 93 ≡ b → p 42 ≡ b → (c : ℕ) → is_calm c ≡ true → p c ≡ b
 calm_at p b s t u v c h =
     elim (one_or (c == 32) ((c == 44) || ((c == 93) || (c == 42))) h) [
-    | inl e ↦ ap p (eqb-true c 32 e) ∙ s
-    | inr e ↦ elim (one_or (c == 44) ((c == 93) || (c == 42)) e) [
-      | inl f ↦ ap p (eqb-true c 44 f) ∙ t
-      | inr f ↦ elim (one_or (c == 93) (c == 42) f) [
-        | inl g ↦ ap p (eqb-true c 93 g) ∙ u
-        | inr g ↦ ap p (eqb-true c 42 g) ∙ v ] ] ]
+      | inl e ↦ ap p (eqb-true c 32 e) ∙ s
+      | inr e ↦ elim (one_or (c == 44) ((c == 93) || (c == 42)) e) [
+        | inl f ↦ ap p (eqb-true c 44 f) ∙ t
+        | inr f ↦ elim (one_or (c == 93) (c == 42) f) [
+          | inl g ↦ ap p (eqb-true c 93 g) ∙ u
+          | inr g ↦ ap p (eqb-true c 42 g) ∙ v
+        ]
+      ]
+    ]
 
 pub calm_begins : (p : ℕ → Bool) (b : Bool) → p 32 ≡ b → p 44 ≡ b → p 93 ≡ b → p 42 ≡ b → (bytes : List ℕ) → IsCalm bytes → Begins p b bytes
 calm_begins p b s t u v [] h = tt
@@ -91,10 +94,12 @@ prefix_all p (b ∷ bytes) rest h k =
 pub letter_from : (b : ℕ) → begins_word b ≡ true → 65 ≤ b
 letter_from b h =
     elim (one_or (is_letter b) (b == 95) h) [
-    | inl e ↦ elim (one_or (nat_le 65 b && nat_le b 90) (nat_le 97 b && nat_le b 122) e) [
-      | inl f ↦ leb-true 65 b (both_left (nat_le 65 b) (nat_le b 90) f)
-      | inr f ↦ let g = leb-true 97 b (both_left (nat_le 97 b) (nat_le b 122) f) in omega arith ]
-    | inr e ↦ let f = eqb-true b 95 e in omega arith ]
+      | inl e ↦ elim (one_or (nat_le 65 b && nat_le b 90) (nat_le 97 b && nat_le b 122) e) [
+        | inl f ↦ leb-true 65 b (both_left (nat_le 65 b) (nat_le b 90) f)
+        | inr f ↦ let g = leb-true 97 b (both_left (nat_le 97 b) (nat_le b 122) f) in omega arith
+      ]
+      | inr e ↦ let f = eqb-true b 95 e in omega arith
+    ]
 
 and_false : (a b : Bool) → b ≡ false → (a && b) ≡ false
 and_false true b h = h

@@ -19,3 +19,5 @@ pub mod SoundLemmas
 pub mod PrintedItems
 pub mod PrintedLists
 pub mod PrintedLines
+pub mod PrintedTrees
+pub mod ReadBack

@@ -1,27 +1,25 @@
 -- The canonical tokens of what tokens spell: they spell the same, and can be written. Numbers, expressions and constraints.
-use Rattle.std.proofs.Common.{◌≡◌, inl, inr, ℕ, zero, suc, Bool, true, false, ◌&&◌, if◌then◌else◌, ℤ, pos, negsuc, List, [], ◌∷◌, ◌++◌, Option, Some, None, Result, Ok, Err, refl, sym, ap, ◌∙◌, subst, append-nil, arith}
+use Rattle.std.proofs.Common.{◌≡◌, inl, inr, ℕ, zero, suc, Bool, true, false, if◌then◌else◌, ℤ, pos, negsuc, List, [], ◌∷◌, ◌++◌, Option, Some, None, refl, sym, ap, ◌∙◌, subst, append-nil, arith}
 use Rattle.std.proofs.lemmas.Bool.{lt-leb}
 use Rattle.std.proofs.lemmas.Int.{ints}
-use Rattle.std.specs.Bool.{⊤}
-use Rattle.std.specs.List.{flat_map, list_any}
+use Rattle.std.specs.List.{flat_map}
 use Rattle.std.specs.Ordering.{int_eq}
 use Rattle.std.proofs.lemmas.Bool.Decides.{Decides-int_eq}
 use Rattle.poly_specs.specs.Fractions.{Fraction}
 use Rattle.number_specs.specs.FractionTexts.{fraction_text}
 use Rattle.number_specs.specs.Literals.{read_literal, IsLiteralNumber}
 use Rattle.number_specs.proofs.LiteralLemmas.{literals_are, literals_back}
-use Rattle.lang_specs.specs.declared.Kind.{Kind}
 use Rattle.lang_specs.specs.declared.Kind.TheVariants as kinds
 use Rattle.lang_specs.specs.declared.Sign.{Sign}
 use Rattle.lang_specs.specs.declared.Sign.TheVariants as signs
-use Rattle.lang_specs.specs.Marks.{Mark, has_text, the, a_name, a_number}
+use Rattle.lang_specs.specs.Marks.{Mark, has_text, the, a_name}
 use Rattle.lang_specs.specs.Limits.{is_in_range}
 use Rattle.lang_specs.specs.Trees.{Term, RowTree}
-use Rattle.lang_specs.specs.Expressions.{AreJoined, IsName, IsValue, IsLiteral, IsNum, minus_if, signed, one, IsFactor, minus_or_plus, AreMoreTerms, IsExpr, sign_mark, IsAllowed, IsRow, AreRows, IsBetween}
-use Rattle.lang_specs.specs.Canonical.{joined, number_tokens, num_tokens, is_one, factor_tokens, more_term_tokens, expr_tokens, row_tokens, rows_tokens, between_tokens, is_strict}
+use Rattle.lang_specs.specs.Expressions.{AreJoined, IsValue, IsLiteral, IsNum, minus_if, signed, one, IsFactor, minus_or_plus, AreMoreTerms, IsExpr, sign_mark, IsAllowed, IsRow, AreRows, IsBetween}
+use Rattle.lang_specs.specs.Canonical.{joined, number_tokens, num_tokens, is_one, factor_tokens, more_term_tokens, expr_tokens, row_tokens, rows_tokens, between_tokens}
 use Rattle.lang_specs.proofs.SplitLemmas.{HeadIn, apart, both_left, both_right, head_front}
 use Rattle.lang_specs.proofs.EachLemmas.{Each, each_front, each_rest}
-use Rattle.lang_specs.proofs.CutLemmas.{IsWritable, AreWritable, writable_append}
+use Rattle.lang_specs.proofs.CutLemmas.{AreWritable, writable_append}
 use Rattle.lang_specs.proofs.SoundLemmas.{IsSound}
 
 -- each name is one, and each literal is read
@@ -132,10 +130,11 @@ more_printed ms (t ∷ ts) (front, rest, e, h, k) sound =
     let parts = subst AreSound e sound in
     let factor = factor_printed front t.value t.var h (sound_front front rest parts.1) in
     let others = more_printed rest ts k (sound_rest front rest parts.1) in
-    let tokens : List Mark = factor_tokens t.value t.var in
-    ((tokens, more_tokens ts, refl, factor.is, others.0),
-    joint_writable t.neg (tokens ++ more_tokens ts) (head_front has_text tokens (more_tokens ts) factor.head)
-    (writable_append tokens (more_tokens ts) factor.writable others.1))
+    let tokens : List Mark = factor_tokens t.value t.var in (
+      (tokens, more_tokens ts, refl, factor.is, others.0),
+      joint_writable t.neg (tokens ++ more_tokens ts) (head_front has_text tokens (more_tokens ts) factor.head)
+          (writable_append tokens (more_tokens ts) factor.writable others.1),
+    )
 
 pub expr_printed : (ms : List Mark) (ts : List Term) → IsExpr ms ts → AreSound ms → IsPrinted IsExpr expr_tokens ts
 expr_printed ms [] h sound = absurd h
@@ -143,9 +142,10 @@ expr_printed ms (t ∷ ts) (front, rest, e, h, k) sound =
     let parts = subst AreSound e sound in
     let factor = factor_printed front t.value t.var h (sound_rest (minus_if t.neg) front (sound_front (minus_if t.neg ++ front) rest parts)) in
     let others = more_printed rest ts k (sound_rest (minus_if t.neg ++ front) rest parts) in
-    let tokens : List Mark = factor_tokens t.value t.var in
-    ((tokens, more_tokens ts, refl, factor.is, others.0),
-    writable_append (minus_if t.neg ++ tokens) (more_tokens ts) (lead_writable t.neg tokens factor.head factor.writable) others.1)
+    let tokens : List Mark = factor_tokens t.value t.var in (
+      (tokens, more_tokens ts, refl, factor.is, others.0),
+      writable_append (minus_if t.neg ++ tokens) (more_tokens ts) (lead_writable t.neg tokens factor.head factor.writable) others.1,
+    )
 
 -- ---- constraints
 
@@ -165,9 +165,10 @@ pub row_printed : (strict other : Bool) (ms : List Mark) (r : RowTree) → IsLet
 row_printed strict other ms r lets (front, rest, e, h, i, k) sound =
     let parts = subst AreSound e sound in
     let left = expr_printed front r.left h (sound_front front (sign_mark r.sign ∷ rest) parts) in
-    let right = expr_printed rest r.right k (sound_rest front (sign_mark r.sign ∷ rest) parts).1 in
-    ((expr_tokens r.left, expr_tokens r.right, refl, left.0, lets i, right.0),
-    writable_append (expr_tokens r.left) (sign_mark r.sign ∷ expr_tokens r.right) left.1 (sign_writable r.sign (expr_tokens r.right) right.1))
+    let right = expr_printed rest r.right k (sound_rest front (sign_mark r.sign ∷ rest) parts).1 in (
+      (expr_tokens r.left, expr_tokens r.right, refl, left.0, lets i, right.0),
+      writable_append (expr_tokens r.left) (sign_mark r.sign ∷ expr_tokens r.right) left.1 (sign_writable r.sign (expr_tokens r.right) right.1),
+    )
 
 -- ---- lists with commas
 
@@ -181,9 +182,10 @@ module _ {X : Type 0} (Is To : List Mark → X → Type 0) (tokens : X → List 
   joined_printed ms (x ∷ y ∷ xs) p (front, rest, e, h, k) sound =
       let parts = subst AreSound e sound in
       let item = each front x p.0 h (sound_front front (the kinds.Comma ∷ rest) parts) in
-      let others = joined_printed rest (y ∷ xs) p.1 k (sound_rest front (the kinds.Comma ∷ rest) parts).1 in
-      ((tokens x, joined tokens (y ∷ xs), refl, item.0, others.0),
-      writable_append (tokens x) (the kinds.Comma ∷ joined tokens (y ∷ xs)) item.1 (refl, tt, others.1))
+      let others = joined_printed rest (y ∷ xs) p.1 k (sound_rest front (the kinds.Comma ∷ rest) parts).1 in (
+        (tokens x, joined tokens (y ∷ xs), refl, item.0, others.0),
+        writable_append (tokens x) (the kinds.Comma ∷ joined tokens (y ∷ xs)) item.1 (refl, tt, others.1),
+      )
 
 pub rows_printed : (strict other : Bool) (ms : List Mark) (rs : List RowTree) → Each (IsLet strict other) rs → AreRows strict ms rs → AreSound ms →
     IsPrinted (AreRows other) rows_tokens rs
@@ -200,7 +202,8 @@ between_printed Is tokens each ms lo hi (front, rest, e, h, k) sound =
     let parts = subst AreSound e sound in
     let inner = sound_front (the kinds.Open ∷ front ++ the kinds.Comma ∷ rest) (the kinds.Close ∷ []) parts in
     let low = each front lo h (sound_front front (the kinds.Comma ∷ rest) inner.1) in
-    let high = each rest hi k (sound_rest front (the kinds.Comma ∷ rest) inner.1).1 in
-    ((tokens lo, tokens hi, refl, low.0, high.0),
-    writable_append (the kinds.Open ∷ tokens lo ++ the kinds.Comma ∷ tokens hi) (the kinds.Close ∷ [])
-    (refl, tt, writable_append (tokens lo) (the kinds.Comma ∷ tokens hi) low.1 (refl, tt, high.1)) (refl, tt, tt))
+    let high = each rest hi k (sound_rest front (the kinds.Comma ∷ rest) inner.1).1 in (
+      (tokens lo, tokens hi, refl, low.0, high.0),
+      writable_append (the kinds.Open ∷ tokens lo ++ the kinds.Comma ∷ tokens hi) (the kinds.Close ∷ [])
+          (refl, tt, writable_append (tokens lo) (the kinds.Comma ∷ tokens hi) low.1 (refl, tt, high.1)) (refl, tt, tt),
+    )

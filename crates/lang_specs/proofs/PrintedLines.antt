@@ -1,23 +1,23 @@
 -- The canonical lines of what lines spell: they spell the same but for the lines' numbers, and can be written.
-use Rattle.std.proofs.Common.{◌≡◌, ℕ, ◌+◌, Bool, true, false, ◌||◌, List, [], ◌∷◌, ◌++◌, length, map, Option, Some, None, refl, sym, ap, ◌∙◌, subst, arith, append_assoc, append-nil}
-use Rattle.std.specs.Bool.{⊤, IsTrue}
-use Rattle.std.specs.List.{flat_map, list_any}
+use Rattle.std.proofs.Common.{◌≡◌, ℕ, ◌+◌, Bool, true, false, ◌||◌, List, [], ◌∷◌, ◌++◌, length, Option, Some, None, refl, sym, ap, ◌∙◌, subst, arith, append_assoc, append-nil}
+use Rattle.std.specs.Bool.{IsTrue}
+use Rattle.std.specs.List.{list_any}
 use Rattle.lang_specs.specs.declared.Kind.{Kind}
 use Rattle.lang_specs.specs.declared.Kind.TheVariants as kinds
 use Rattle.lang_specs.specs.declared.Sign.{Sign}
 use Rattle.lang_specs.specs.declared.Sign.TheVariants as signs
 use Rattle.lang_specs.specs.Marks.{Mark, the, a_name, Lined, statement}
-use Rattle.lang_specs.specs.Trees.{RowTree, RowsTree, BoxesTree, BoundsTree, LocTree, TransTree, Tree, rows_of, row_lists}
-use Rattle.lang_specs.specs.Expressions.{IsAllowed, IsSome, AreRows}
-use Rattle.lang_specs.specs.Grammar.{AreInOrder, IsRowsLine, IsFlow, unsafe_if, IsLoc, IsTrans, IsVars, IsObs, IsTree}
-use Rattle.lang_specs.specs.Canonical.{joined, rows_tokens, box_tokens, bound_tokens, guard_tokens, acts_tokens, rows_line, obs_line, loc_lines, trans_line, tree_lines, is_strict, has_obs, has_strict, needs_second}
-use Rattle.lang_specs.specs.SameTrees.{rows_alone, bounds_alone, loc_alone, trans_alone, tree_alone}
-use Rattle.lang_specs.proofs.EachLemmas.{Each, each_append, each_front, each_rest, each_of_map, each_of_flat, each_from, each_to}
-use Rattle.lang_specs.proofs.CutLemmas.{AreWritable, writable_append}
+use Rattle.lang_specs.specs.Trees.{RowTree, RowsTree, BoxesTree, LocTree, rows_of}
+use Rattle.lang_specs.specs.Expressions.{IsAllowed}
+use Rattle.lang_specs.specs.Grammar.{IsRowsLine, unsafe_if, IsLoc}
+use Rattle.lang_specs.specs.Canonical.{joined, rows_tokens, box_tokens, rows_line, loc_lines, is_strict, has_strict}
+use Rattle.lang_specs.specs.SameTrees.{rows_alone, loc_alone}
+use Rattle.lang_specs.proofs.EachLemmas.{Each, each_append, each_front, each_rest, each_of_map, each_from, each_to}
+use Rattle.lang_specs.proofs.CutLemmas.{AreWritable}
 use Rattle.lang_specs.proofs.TextCuts.{IsLine, numbered}
 use Rattle.lang_specs.proofs.SoundLemmas.{IsSound}
 use Rattle.lang_specs.proofs.PrintedItems.{AreSound, IsLet, rows_printed}
-use Rattle.lang_specs.proofs.PrintedLists.{names_printed, boxes_printed, bounds_printed, acts_printed, guard_printed}
+use Rattle.lang_specs.proofs.PrintedLists.{boxes_printed}
 
 -- ---- lines of tokens
 
@@ -73,26 +73,27 @@ sign_let strict other signs.Equal f h = tt
 sign_let strict other signs.Less f h = f refl
 sign_let strict other signs.Greater f h = f refl
 
-or_left : (a b : Bool) → a ≡ true → (a || b) ≡ true
+pub or_left : (a b : Bool) → a ≡ true → (a || b) ≡ true
 or_left true b h = refl
 or_left false b h = absurd (let f : ⊥ = cc in f)
 
-or_right : (a b : Bool) → b ≡ true → (a || b) ≡ true
+pub or_right : (a b : Bool) → b ≡ true → (a || b) ≡ true
 or_right true b h = refl
 or_right false b h = h
 
 pub each_any : {X : Type 0} (p : X → Bool) (xs : List X) → Each (λ x. p x ≡ true → list_any p xs ≡ true) xs
 each_any p [] = tt
-each_any p (x ∷ xs) =
-    (or_left (p x) (list_any p xs),
-    each_to (λ y. p y ≡ true → list_any p xs ≡ true) (λ y. p y ≡ true → list_any p (x ∷ xs) ≡ true) (λ y f h. or_right (p x) (list_any p xs) (f h)) xs (each_any p xs))
+each_any p (x ∷ xs) = (
+  or_left (p x) (list_any p xs),
+  each_to (λ y. p y ≡ true → list_any p xs ≡ true) (λ y. p y ≡ true → list_any p (x ∷ xs) ≡ true) (λ y f h. or_right (p x) (list_any p xs) (f h)) xs (each_any p xs),
+)
 
 rows_let : (strict other : Bool) (rs : List RowTree) → (list_any (λ r. is_strict r.sign) rs ≡ true → IsTrue other) → Each (IsLet strict other) rs
 rows_let strict other rs f =
     each_to (λ r. is_strict r.sign ≡ true → list_any (λ r. is_strict r.sign) rs ≡ true) (IsLet strict other)
     (λ r g. sign_let strict other r.sign (λ h. f (g h))) rs (each_any (λ (r : RowTree). is_strict r.sign) rs)
 
-lists_let : (strict other : Bool) (lists : List (List RowTree)) → (has_strict lists ≡ true → IsTrue other) → AreLet strict other lists
+pub lists_let : (strict other : Bool) (lists : List (List RowTree)) → (has_strict lists ≡ true → IsTrue other) → AreLet strict other lists
 lists_let strict other lists f =
     each_to (λ rows. list_any (λ r. is_strict r.sign) rows ≡ true → has_strict lists ≡ true) (λ rows. Each (IsLet strict other) rows)
     (λ rows g. rows_let strict other rows (λ h. f (g h))) lists (each_any (λ (rows : List RowTree). list_any (λ r. is_strict r.sign) rows) lists)
@@ -135,7 +136,7 @@ loc_numbered line a f b c d =
     ∙ ap (λ z. z ++ (statement n f ++ numbered (n + 1) d)) (numbered_append line (a ∷ b) c)
     ∙ sym (append_assoc (numbered line (a ∷ b) ++ numbered (line + length (a ∷ b)) c) (statement n f) (numbered (n + 1) d))
 
-loc_printed : (strict other : Bool) (ls : List Lined) (l : LocTree) → AreLet strict other (rows_of l.init ++ rows_of l.inv ++ rows_of l.also) →
+pub loc_printed : (strict other : Bool) (ls : List Lined) (l : LocTree) → AreLet strict other (rows_of l.init ++ rows_of l.inv ++ rows_of l.also) →
     IsLoc strict ls l → AreSoundLines ls → IsReprinted (IsLoc other) loc_lines loc_alone l
 loc_printed strict other ls l lets (init, inv, flow, also, e, hi, hv, hf, ha) sound =
     let Lets : List RowTree → Type 0 = λ rows. Each (IsLet strict other) rows in
@@ -172,8 +173,17 @@ loc_printed strict other ls l lets (init, inv, flow, also, e, hi, hv, hf, ha) so
               flow = record { line = n; boxes = l.flow.boxes };
               also = s.other;
             };
-            is = (numbered (line + 1) as_init, numbered at as_inv, statement n (flow_mark l.flow), numbered (n + 1) as_also,
-            loc_numbered line (loc_mark l) (flow_mark l.flow) as_init as_inv as_also, i.is, v.is, (joined box_tokens l.flow.boxes, refl, boxes.0), s.is);
+            is = (
+              numbered (line + 1) as_init,
+              numbered at as_inv,
+              statement n (flow_mark l.flow),
+              numbered (n + 1) as_also,
+              loc_numbered line (loc_mark l) (flow_mark l.flow) as_init as_inv as_also,
+              i.is,
+              v.is,
+              (joined box_tokens l.flow.boxes, refl, boxes.0),
+              s.is,
+            );
             same = let p = i.same in let q = v.same in let r = s.same in cc;
           };
       good =

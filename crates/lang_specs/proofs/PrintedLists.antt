@@ -1,13 +1,11 @@
 -- The canonical tokens of what tokens spell: boxes, bounds, guards and acts.
-use Rattle.std.proofs.Common.{◌≡◌, inl, inr, ℕ, Bool, List, [], ◌∷◌, ◌++◌, refl, sym, subst}
+use Rattle.std.proofs.Common.{inl, inr, ℕ, Bool, List, [], ◌∷◌, refl, subst}
 use Rattle.std.specs.Bool.{⊤}
-use Rattle.lang_specs.specs.declared.Kind.TheVariants as kinds
-use Rattle.lang_specs.specs.Marks.{Mark, the, a_name}
-use Rattle.lang_specs.specs.Trees.{Term, RowTree, BoxTree, BoundTree, Act, Set, Within, Free}
-use Rattle.lang_specs.specs.Expressions.{AreJoined, IsName, IsLiteral, IsNum, IsExpr, AreRows, IsBetween, IsBox, IsBound, IsAct, IsGuard, AreActs}
+use Rattle.lang_specs.specs.Marks.{Mark, a_name}
+use Rattle.lang_specs.specs.Trees.{RowTree, BoxTree, BoundTree, Act, Set, Within, Free}
+use Rattle.lang_specs.specs.Expressions.{AreJoined, IsName, IsNum, IsExpr, IsBox, IsBound, IsAct, IsGuard, AreActs}
 use Rattle.lang_specs.specs.Canonical.{joined, number_tokens, num_tokens, expr_tokens, rows_tokens, between_tokens, box_tokens, bound_tokens, act_tokens, guard_tokens, acts_tokens}
 use Rattle.lang_specs.proofs.EachLemmas.{Each, each_from}
-use Rattle.lang_specs.proofs.CutLemmas.{AreWritable}
 use Rattle.lang_specs.proofs.PrintedItems.{AreSound, IsPrinted, literal_printed, num_printed, expr_printed, IsLet, rows_printed, joined_printed, between_printed}
 
 -- ---- lists of which nothing more is asked

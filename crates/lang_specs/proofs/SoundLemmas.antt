@@ -1,5 +1,5 @@
 -- The names and literals among the tokens of a text, where no limit is passed.
-use Rattle.std.proofs.Common.{◌≡◌, inl, inr, ℕ, zero, suc, ◌+◌, ◌-◌, ◌≤◌, Bool, true, false, not, ◌&&◌, ◌||◌, if◌then◌else◌, List, [], ◌∷◌, ◌++◌, length, take, Option, Some, None, Result, Ok, Err, refl, sym, ap, ◌∙◌, subst, arith}
+use Rattle.std.proofs.Common.{◌≡◌, ℕ, zero, suc, ◌+◌, ◌-◌, Bool, true, false, not, ◌&&◌, ◌||◌, if◌then◌else◌, List, [], ◌∷◌, length, take, Some, Result, Ok, Err, refl, sym, ap, subst, arith}
 use Rattle.std.specs.Prelude.{◌==◌, nat_le, cond}
 use Rattle.std.specs.Bool.{⊤}
 use Rattle.std.specs.List.{list_all, list_any, find, prefix_len, starts_with}
@@ -17,14 +17,14 @@ use Rattle.lang_specs.specs.declared.Kind.TheVariants as kinds
 use Rattle.lang_specs.specs.declared.Which.{Which}
 use Rattle.lang_specs.specs.declared.Which.TheVariants.{NameBytes, Digits}
 use Rattle.lang_specs.specs.Words.{spelled, word_kind, sign_kinds, sign_kind}
-use Rattle.lang_specs.specs.Tokens.{Placed, Found, is_blank, begins_comment, begins_word, word_len, literal_len, kind_of_literal, literal_kind, word_at, literal_at, sign_at, token_at, end_of_line, placed, behind, cut, line_tokens}
-use Rattle.lang_specs.specs.Lines.{unless_bare, end_of_text, tokens_from, lines_of, text_tokens}
-use Rattle.lang_specs.specs.Marks.{Mark, has_text, mark, Lined, lined}
+use Rattle.lang_specs.specs.Tokens.{Placed, Found, is_blank, begins_comment, begins_word, word_len, literal_len, kind_of_literal, word_at, literal_at, sign_at, token_at, end_of_line, placed, behind, cut, line_tokens}
+use Rattle.lang_specs.specs.Lines.{unless_bare, tokens_from, lines_of, text_tokens}
+use Rattle.lang_specs.specs.Marks.{has_text, Lined, lined}
 use Rattle.lang_specs.specs.Trees.{Tree}
 use Rattle.lang_specs.specs.Limits.{has_at_most, has_few_bytes, is_in_range, has_few_digits, Keeps}
-use Rattle.lang_specs.proofs.SplitLemmas.{apart, both_left, both_right}
+use Rattle.lang_specs.proofs.SplitLemmas.{apart}
 use Rattle.lang_specs.proofs.WordLemmas.{names_are}
-use Rattle.lang_specs.proofs.EachLemmas.{Each, each_append, each_in_map, each_of_all, both}
+use Rattle.lang_specs.proofs.EachLemmas.{Each, each_append, each_of_all, both}
 use Rattle.lang_specs.proofs.CutLemmas.{IsNameText}
 
 -- ---- names that are cut

@@ -1,24 +1,22 @@
 -- A text that is written line by line has these lines, and the tokens that they were written of.
-use Rattle.std.proofs.Common.{◌≡◌, ◌⊎◌, inl, inr, ℕ, suc, ◌+◌, ◌^◌, ◌<◌, ◌≤◌, ℤ, pos, negsuc, Bool, true, false, ◌&&◌, ◌||◌, if◌then◌else◌, List, [], ◌∷◌, ◌++◌, length, map, refl, sym, ap, ◌∙◌, subst, arith, append_assoc, append-nil}
+use Rattle.std.proofs.Common.{◌≡◌, inl, inr, ℕ, ◌+◌, ◌^◌, ◌<◌, ◌≤◌, ℤ, pos, negsuc, Bool, true, false, ◌||◌, if◌then◌else◌, List, [], ◌∷◌, ◌++◌, length, map, refl, sym, ap, ◌∙◌, subst, arith, append_assoc, append-nil}
 use Rattle.std.specs.Prelude.{◌==◌, nat_le, codes, decimal}
-use Rattle.std.specs.Bool.{⊤}
 use Rattle.std.specs.List.{list_all, flat_map}
 use Rattle.std.proofs.lemmas.Int.{ints}
-use Rattle.std.proofs.lemmas.Bool.{leb-true, le-leb, ne_eqb}
+use Rattle.std.proofs.lemmas.Bool.{leb-true, ne_eqb}
 use Rattle.number_specs.specs.Digits.{is_digit}
 use Rattle.number_specs.specs.FractionTexts.{denominator_text, fraction_text}
 use Rattle.number_specs.specs.Literals.{IsLiteralNumber}
-use Rattle.poly_specs.specs.Fractions.{Fraction}
 use Rattle.run_specs.specs.Names.{is_letter, is_word_byte}
 use Rattle.lang_specs.specs.declared.Kind.{Kind}
 use Rattle.lang_specs.specs.declared.Kind.TheVariants as kinds
 use Rattle.lang_specs.specs.Words.{spelled}
 use Rattle.lang_specs.specs.Tokens.{Placed, line_tokens}
-use Rattle.lang_specs.specs.Lines.{without_return, lines_from, lines_of, unless_bare, end_of_text, tokens_from, text_tokens}
+use Rattle.lang_specs.specs.Lines.{without_return, lines_from, lines_of, unless_bare, tokens_from, text_tokens}
 use Rattle.lang_specs.specs.Marks.{Mark, has_text, the, mark, Lined, lined, statement}
 use Rattle.lang_specs.specs.Canonical.{written, is_close_before, is_close_behind, leads, spaced, line_text}
-use Rattle.lang_specs.proofs.SplitLemmas.{apart, both_left, both_right}
-use Rattle.lang_specs.proofs.EachLemmas.{Each, both}
+use Rattle.lang_specs.proofs.SplitLemmas.{both_left, both_right}
+use Rattle.lang_specs.proofs.EachLemmas.{Each}
 use Rattle.lang_specs.proofs.FrontLemmas.{IsNumberText, one_or, letter_from, digit_from, decimal_is}
 use Rattle.lang_specs.proofs.CutLemmas.{IsWritable, AreWritable, name_parts, line_bytes, line_is_cut}
 
@@ -45,10 +43,12 @@ word_end false b h = h
 word_is_high : (b : ℕ) → is_word_byte b ≡ true → 32 ≤ b
 word_is_high b h =
     elim (one_or (is_letter b || is_digit b) (b == 95) h) [
-    | inl e ↦ elim (one_or (is_letter b) (is_digit b) e) [
-      | inl f ↦ let g = letter_from b (ap (λ t. t || (b == 95)) f) in omega arith
-      | inr f ↦ digit_is_high b f ]
-    | inr e ↦ let g = letter_from b (word_end (is_letter b) (b == 95) e) in omega arith ]
+      | inl e ↦ elim (one_or (is_letter b) (is_digit b) e) [
+        | inl f ↦ let g = letter_from b (ap (λ t. t || (b == 95)) f) in omega arith
+        | inr f ↦ digit_is_high b f
+      ]
+      | inr e ↦ let g = letter_from b (word_end (is_letter b) (b == 95) e) in omega arith
+    ]
 
 tail_is_high : (p : Bool) (es : List ℕ) → AreHigh es → AreHigh (if p then [] else 47 ∷ es)
 tail_is_high true es h = tt

@@ -3,6 +3,7 @@
 
 pub mod examples;
 pub mod laws;
+pub mod printing;
 
 /// What a token is.
 #[derive(Clone, Copy, Debug, PartialEq, Eq)]
