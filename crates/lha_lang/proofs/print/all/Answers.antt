@@ -10,5 +10,5 @@ returns-in_ok-print-in-len1-up g c =
     on_ok c.more.result (c.more.new.page ≡ with_tokens c.print.new.page (more_tokens g.T.Print.tokens (take (length c.args.items.now - 1) (drop 1 c.args.items.now))))
     (c.more.new.page ≡ with_tokens c.args.page.now (joined g.T.Print.tokens c.args.items.now))
     (λ rest. joined_tokens g.T.Print.tokens c.args.items.now c.first-item.result c.args.page.now c.print.new.page c.more.new.page some c.first-item.is
-        c.in_ok-print-in-len1-up.ensures rest)
+    c.in_ok-print-in-len1-up.ensures rest)
     c.more.ensures
