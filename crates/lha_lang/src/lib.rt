@@ -3,6 +3,8 @@
 
 mod pages;
 mod print;
+#[cfg(test)]
+mod print_tests;
 mod sequences;
 mod trees;
 
