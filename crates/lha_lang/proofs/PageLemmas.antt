@@ -1,5 +1,5 @@
 -- Tokens and lines that are printed one behind the other.
-use Rattle.std.proofs.Common.{◌≡◌, ℕ, ◌+◌, ◌-◌, ◌<◌, Bool, true, false, ◌||◌, if◌then◌else◌, ℤ, pos, negsuc, ◌<ℤ◌, ◌≤ℤ◌, suc, Result, Ok, Err, List, [], ◌∷◌, ◌++◌, length, take, drop, get_or, refl, sym, ap, ◌∙◌, arith, append_assoc, append-nil, codes}
+use Rattle.std.proofs.Common.{◌≡◌, ℕ, ◌+◌, ◌-◌, ◌<◌, true, false, ℤ, pos, negsuc, ◌<ℤ◌, ◌≤ℤ◌, suc, Result, Ok, Err, List, [], ◌∷◌, ◌++◌, length, take, drop, get_or, refl, sym, ap, ◌∙◌, arith, append_assoc, append-nil, codes}
 use Rattle.std.specs.Prelude.{OnOk}
 use Rattle.std.specs.List.{flat_map}
 use Rattle.std.proofs.lemmas.Bool.{lt-leb}
@@ -12,8 +12,8 @@ use Rattle.lang_specs.specs.declared.Kind.{Kind}
 use Rattle.lang_specs.specs.declared.Kind.TheVariants as kinds
 use Rattle.lang_specs.specs.Marks.{Mark, the}
 use Rattle.lang_specs.specs.Expressions.{minus_if}
-use Rattle.lang_specs.specs.Canonical.{joined, written, is_close_before, is_close_behind, leads, spaced, line_text, number_tokens, num_tokens}
-use Rattle.lha_lang.specs.Pages.{Page, space_before, with_begin, with_bytes, with_token, with_tokens, at_line_start, with_end, with_line, with_lines}
+use Rattle.lang_specs.specs.Canonical.{joined, written, leads, spaced, line_text, number_tokens, num_tokens}
+use Rattle.lha_lang.specs.Pages.{Page, space_before, with_token, with_tokens, at_line_start, with_line, with_lines}
 
 pub tokens_append : (xs ys : List Mark) (p : Page) → with_tokens p (xs ++ ys) ≡ with_tokens (with_tokens p xs) ys
 tokens_append [] ys p = refl
@@ -71,22 +71,6 @@ lines_bytes [] bytes = ap at_line_start (sym (append-nil bytes))
 lines_bytes (ms ∷ lines) bytes =
     ap (λ z. with_lines z lines) (line_bytes ms bytes) ∙ lines_bytes lines (bytes ++ line_text ms)
     ∙ ap at_line_start (append_assoc bytes (line_text ms) (flat_map line_text lines))
-
--- ---- numbers
-
-num_at : (n d : ℤ) → n <ℤ pos 0 → num_tokens (record { num = n; den = d }) ≡ the kinds.Minus ∷ number_tokens (opposite (record { num = n; den = d }))
-num_at (pos m) d h = absurd (omega (arith, ints))
-num_at (negsuc m) d h = refl
-
-pub num_below : (v : Fraction) → v.num <ℤ pos 0 → num_tokens v ≡ the kinds.Minus ∷ number_tokens (opposite v)
-num_below v h = num_at v.num v.den h
-
-plain_at : (n d : ℤ) → pos 0 ≤ℤ n → num_tokens (record { num = n; den = d }) ≡ number_tokens (record { num = n; den = d })
-plain_at (pos m) d h = ap (λ t. minus_if t ++ number_tokens (record { num = pos m; den = d })) (lt-leb (suc m) 0 (omega arith))
-plain_at (negsuc m) d h = absurd (omega (arith, ints))
-
-pub num_plain : (v : Fraction) → pos 0 ≤ℤ v.num → num_tokens v ≡ number_tokens v
-num_plain v h = plain_at v.num v.den h
 
 -- ---- lists with commas
 

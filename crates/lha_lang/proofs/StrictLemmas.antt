@@ -1,16 +1,12 @@
 -- Whether some constraint of an automaton is strict, asked place by place.
 use Rattle.std.proofs.Common.{◌≡◌, Bool, true, false, ◌||◌, List, [], ◌∷◌, ◌++◌, map, refl, sym, ap, ◌∙◌}
 use Rattle.std.specs.List.{flat_map, list_any}
-use Rattle.lang_specs.specs.Trees.{RowTree, LocTree, TransTree, Tree, rows_of, row_lists}
+use Rattle.lang_specs.specs.Trees.{RowTree, LocTree, TransTree, Tree, rows_of}
 use Rattle.lang_specs.specs.Canonical.{is_strict, has_obs, has_strict, needs_second}
 
 or_assoc : (a b c : Bool) → ((a || b) || c) ≡ (a || (b || c))
 or_assoc true b c = refl
 or_assoc false b c = refl
-
-or_none : (a : Bool) → (a || false) ≡ a
-or_none true = refl
-or_none false = refl
 
 pub any_append : {X : Type 0} (p : X → Bool) (xs ys : List X) → list_any p (xs ++ ys) ≡ (list_any p xs || list_any p ys)
 any_append p [] ys = refl
@@ -29,9 +25,6 @@ rows_strict rows = list_any (λ r. is_strict r.sign) rows
 
 abbrev pub loc_rows : LocTree → List (List RowTree)
 loc_rows l = rows_of l.init ++ rows_of l.inv ++ rows_of l.also
-
-pub one_strict : (rows : List RowTree) → has_strict (rows ∷ []) ≡ rows_strict rows
-one_strict rows = or_none (rows_strict rows)
 
 pub loc_strict : (l : LocTree) → has_strict (loc_rows l) ≡ ((has_strict (rows_of l.init) || has_strict (rows_of l.inv)) || has_strict (rows_of l.also))
 loc_strict l =

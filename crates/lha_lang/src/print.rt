@@ -35,7 +35,7 @@ trait Print {
 }
 
 /// Prints each thing behind a comma.
-fn more<T: Print>(page: &mut Page, items: &[T]) -> Result<(), AllocError>
+fn more_with_commas<T: Print>(page: &mut Page, items: &[T]) -> Result<(), AllocError>
     ensures { OnOk result (page.new ≡ with_tokens page.old (flat_map (λ x. marks.the kinds.Comma ∷ T.tokens x) items.now)) }
 {
     for item in items {
@@ -46,15 +46,14 @@ fn more<T: Print>(page: &mut Page, items: &[T]) -> Result<(), AllocError>
 }
 
 /// Prints the things with commas between.
-#[tactic(auto, using(crate::proofs::PageLemmas::tokens_append))]
-fn all<T: Print>(page: &mut Page, items: &[T]) -> Result<(), AllocError>
+fn with_commas<T: Print>(page: &mut Page, items: &[T]) -> Result<(), AllocError>
     ensures { OnOk result (page.new ≡ with_tokens page.old (joined T.tokens items.now)) }
 {
     match items {
         [] => Ok(()),
         [first, rest @ ..] => {
             first.print(page)?;
-            more(page, rest)
+            more_with_commas(page, rest)
         }
     }
 }
@@ -65,14 +64,13 @@ impl Print for Name {
 
     ghost tokens = { λ v. a_name v ∷ [] };
 
-    #[tactic(auto, using(crate::proofs::PageLemmas::tokens_append))]
     fn print(&self, page: &mut Page) -> Result<(), AllocError> {
         page.name(self)
     }
 }
 
 /// Prints a number, behind a `-` where it is below 0.
-fn num(page: &mut Page, number: &Frac) -> Result<(), AllocError>
+fn signed_number(page: &mut Page, number: &Frac) -> Result<(), AllocError>
     ensures { OnOk result (page.new ≡ with_tokens page.old (canonical.num_tokens number.now)) }
 {
     if number.num() < 0 {
@@ -91,7 +89,6 @@ fn is_one(number: &Frac) -> bool
 }
 
 /// Prints a term without its sign.
-#[tactic(auto, using(crate::proofs::PageLemmas::tokens_append))]
 fn factor(page: &mut Page, term: &Term) -> Result<(), AllocError>
     ensures { OnOk result (page.new ≡ with_tokens page.old (canonical.factor_tokens term.now.value term.now.var)) }
 {
@@ -110,14 +107,13 @@ fn factor(page: &mut Page, term: &Term) -> Result<(), AllocError>
 }
 
 /// Prints a `-`, or nothing.
-fn lead(page: &mut Page, neg: bool) -> Result<(), AllocError>
+fn leading_minus(page: &mut Page, neg: bool) -> Result<(), AllocError>
     ensures { OnOk result (page.new ≡ with_tokens page.old (minus_if neg)) }
 {
     if neg { page.key(Kind::Minus) } else { Ok(()) }
 }
 
 /// Prints a term behind another.
-#[tactic(auto, using(crate::proofs::PageLemmas::tokens_append))]
 fn more_term(page: &mut Page, term: &Term) -> Result<(), AllocError>
     ensures { OnOk result (page.new ≡ with_tokens page.old (canonical.more_term_tokens term.now)) }
 {
@@ -143,7 +139,7 @@ fn expr(page: &mut Page, terms: &[Term]) -> Result<(), AllocError>
     match terms {
         [] => Ok(()),
         [first, rest @ ..] => {
-            lead(page, first.neg())?;
+            leading_minus(page, first.neg())?;
             factor(page, first)?;
             more_terms(page, rest)
         }
@@ -183,7 +179,7 @@ fn rows(page: &mut Page, rows: &[RowTree]) -> Result<(), AllocError>
     if rows.is_empty() {
         page.key(Kind::True)
     } else {
-        all(page, rows)
+        with_commas(page, rows)
     }
 }
 
@@ -197,9 +193,9 @@ impl Print for BoxTree {
         page.name(self.var())?;
         page.key(Kind::In)?;
         page.key(Kind::Open)?;
-        num(page, self.lo())?;
+        signed_number(page, self.lo())?;
         page.key(Kind::Comma)?;
-        num(page, self.hi())?;
+        signed_number(page, self.hi())?;
         page.key(Kind::Close)
     }
 }
@@ -209,7 +205,6 @@ impl Print for BoundTree {
 
     ghost tokens = { bound_tokens };
 
-    #[tactic(auto, using(crate::proofs::PageLemmas::tokens_append))]
     fn print(&self, page: &mut Page) -> Result<(), AllocError> {
         page.name(self.var())?;
         page.key(Kind::Within)?;
@@ -218,7 +213,6 @@ impl Print for BoundTree {
 }
 
 /// Prints that the variable takes the value of the expression.
-#[tactic(auto, using(crate::proofs::PageLemmas::tokens_append))]
 fn set(page: &mut Page, var: &Name, value: &Expr) -> Result<(), AllocError>
     ensures { OnOk result (page.new ≡ with_tokens page.old (canonical.act_tokens (trees.Set var.now value.now))) }
 {
@@ -254,7 +248,6 @@ impl Print for ActTree {
 
     ghost tokens = { act_tokens };
 
-    #[tactic(auto, using(crate::proofs::PageLemmas::tokens_append))]
     fn print(&self, page: &mut Page) -> Result<(), AllocError> {
         match self.parts() {
             ActParts::Set { var, value } => set(page, var, value),
@@ -283,7 +276,7 @@ fn acts(page: &mut Page, acts: &[ActTree]) -> Result<(), AllocError>
         return Ok(());
     }
     page.key(Kind::Set)?;
-    all(page, acts)
+    with_commas(page, acts)
 }
 
 /// What is printed as lines of its own.
@@ -340,7 +333,7 @@ fn flow_line(page: &mut Page, boxes: &[BoxTree]) -> Result<(), AllocError>
     ensures { OnOk result (page.new ≡ with_line page.old (marks.the kinds.Flow ∷ joined canonical.box_tokens boxes.now)) }
 {
     page.key(Kind::Flow)?;
-    all(page, boxes)?;
+    with_commas(page, boxes)?;
     page.end_line()
 }
 
@@ -393,7 +386,7 @@ fn var_line(page: &mut Page, vars: &[Name]) -> Result<(), AllocError>
     ensures { OnOk result (page.new ≡ with_line page.old (marks.the kinds.Var ∷ joined (λ v. marks.a_name v ∷ []) vars.now)) }
 {
     page.key(Kind::Var)?;
-    all(page, vars)?;
+    with_commas(page, vars)?;
     page.end_line()
 }
 
@@ -405,7 +398,7 @@ fn obs_line(page: &mut Page, obs: Option<&BoundsTree>) -> Result<(), AllocError>
         None => Ok(()),
         Some(obs) => {
             page.key(Kind::Obs)?;
-            all(page, obs.bounds())?;
+            with_commas(page, obs.bounds())?;
             page.end_line()
         }
     }
@@ -515,7 +508,7 @@ fn version_line(page: &mut Page, second: bool) -> Result<(), AllocError>
 }
 
 /// Prints all lines of a text.
-fn text(page: &mut Page, trees: &[Tree]) -> Result<(), AllocError>
+fn all_text(page: &mut Page, trees: &[Tree]) -> Result<(), AllocError>
     ensures { OnOk result (page.new ≡ with_lines page.old (canonical.canonical_lines trees.now)) }
 {
     version_line(page, some_need_second(trees))?;
@@ -528,6 +521,6 @@ pub fn print_models(alloc: Global, trees: &[Tree]) -> Result<Vec<u8>, AllocError
     ensures { IfOk result (λ text. text.items ≡ canonical.canonical_text trees.now) }
 {
     let mut page = Page::new(alloc);
-    text(&mut page, trees)?;
+    all_text(&mut page, trees)?;
     Ok(page.into_bytes())
 }

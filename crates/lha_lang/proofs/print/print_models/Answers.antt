@@ -7,4 +7,4 @@ use Rattle.lha_lang.proofs.print.print_models.Goals as goal
 pub returns : goal.returns
 returns c =
     let lines = canonical_lines c.args.trees.now in
-    c.into_bytes.ensures ∙ text_bytes c.text.new.page lines (c.in_ok-text.ensures ∙ ap (λ p. with_lines p lines) c.new-page.ensures)
+    c.into_bytes.ensures ∙ text_bytes c.all_text.new.page lines (c.in_ok-all_text.ensures ∙ ap (λ p. with_lines p lines) c.new-page.ensures)
