@@ -1,0 +1,2 @@
+pub mod JumpRowLemmas
+pub mod JumpLemmas

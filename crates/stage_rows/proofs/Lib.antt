@@ -1,0 +1,3 @@
+pub mod SharedDivisors
+pub mod ProjectionLemmas
+pub mod RespellingLemmas

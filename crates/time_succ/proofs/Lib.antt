@@ -1,0 +1,2 @@
+pub mod LegRowLemmas
+pub mod LegLemmas
