@@ -1,2 +1,5 @@
 pub mod PageLemmas
 pub mod StrictLemmas
+pub mod AsciiText
+pub mod Cutting
+pub mod FirstLine

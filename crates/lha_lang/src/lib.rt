@@ -5,7 +5,9 @@ mod pages;
 mod print;
 #[cfg(test)]
 mod print_tests;
+mod lines;
 mod sequences;
+mod tokens;
 mod trees;
 
 pub use print::print_models;
