@@ -3,3 +3,5 @@ pub mod StrictLemmas
 pub mod AsciiText
 pub mod Cutting
 pub mod FirstLine
+pub mod Running
+pub mod Walks

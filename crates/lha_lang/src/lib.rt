@@ -5,6 +5,8 @@ mod pages;
 mod print;
 #[cfg(test)]
 mod print_tests;
+mod boxes;
+mod faults;
 mod lines;
 mod sequences;
 mod tokens;
