@@ -5,3 +5,4 @@ pub mod Cutting
 pub mod FirstLine
 pub mod Running
 pub mod Walks
+pub mod JoinedLaws

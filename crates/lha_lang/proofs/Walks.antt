@@ -98,11 +98,11 @@ if_either false false x z y e = absurd cc
 
 -- ---- walks
 
-pub and_walk : {S : Type 0} → Option S → (S → Option S) → Option S
+unfoldable pub and_walk : {S : Type 0} → Option S → (S → Option S) → Option S
 and_walk None f = None
 and_walk (Some u) f = f u
 
-pub walk : {S : Type 0} → (S → Mark → Option S) → S → List Mark → Option S
+unfoldable pub walk : {S : Type 0} → (S → Mark → Option S) → S → List Mark → Option S
 walk next s [] = Some s
 walk next s (m ∷ ms) = and_walk (next s m) (λ u. walk next u ms)
 
@@ -136,3 +136,7 @@ module _ {S : Type 0} (next : S → Mark → Option S) where
   unfolding walk
   walk_stopped s [] ns e = absurd cc
   walk_stopped s (m ∷ ms) ns e = none_on (next s m) (λ v. walk next v ms) (λ v. walk next v (ms ++ ns)) (λ v h. walk_stopped v ms ns h) e
+
+  pub walk_step : (s u : S) (m : Mark) (ms : List Mark) → next s m ≡ Some u → walk next s (m ∷ ms) ≡ walk next u ms
+  unfolding walk and_walk
+  walk_step s u m ms e = rw e refl

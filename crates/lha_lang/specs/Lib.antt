@@ -6,3 +6,4 @@ pub mod Machines
 pub mod BoxMachine
 pub mod Views
 pub mod Gives
+pub mod LineFaults

