@@ -5,4 +5,8 @@ pub mod Cutting
 pub mod FirstLine
 pub mod Running
 pub mod Walks
+pub mod LiteralMarks
 pub mod JoinedLaws
+pub mod BoxLaws
+pub mod NameLaws
+pub mod LiteralTokens

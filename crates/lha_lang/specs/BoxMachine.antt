@@ -1,7 +1,10 @@
 -- Reading a box.
-use Rattle.std.specs.Prelude.{ℕ, Bool, true, false, if◌then◌else◌, List, [], ◌∷◌, ◌++◌, Option, Some, None}
+use Rattle.std.specs.Prelude.{◌≡◌, ℕ, Bool, true, false, if◌then◌else◌, List, [], ◌∷◌, ◌++◌, Option, Some, None}
 use Rattle.lang_specs.specs.declared.Kind.TheVariants.{Name, Number, In, Comma, Open, Close, Minus}
 use Rattle.lang_specs.specs.Marks.{Mark}
+use Rattle.poly_specs.specs.Fractions.{Fraction}
+use Rattle.lang_specs.specs.Trees.{BoxTree}
+use Rattle.lang_specs.specs.Expressions.{IsValue, signed}
 use Rattle.lha_lang.specs.Kinds.{same_kind}
 use Rattle.lha_lang.specs.Machines.{Machine}
 
@@ -63,3 +66,10 @@ made (at_close v lo hi) = None
 -- boxes have no limit of their own
 abbrev pub boxes : Machine Place Box
 boxes = record { start = at_var; next = in_box; made = made; passes = λ done p m. None }
+
+-- what a box says as it is written
+abbrev pub IsNumValue : Num → Fraction → Type 0
+IsNumValue n v = (size : Fraction) × IsValue n.text size × (v ≡ signed n.neg size)
+
+abbrev pub IsBoxValue : Box → BoxTree → Type 0
+IsBoxValue b y = (b.var ≡ y.var) × IsNumValue b.lo y.lo × IsNumValue b.hi y.hi

@@ -7,3 +7,5 @@ pub mod BoxMachine
 pub mod Views
 pub mod Gives
 pub mod LineFaults
+pub mod NameMachine
+pub mod BoundMachine

@@ -1,5 +1,5 @@
 -- Reading a list of items with commas between, a token at a time.
-use Rattle.std.specs.Prelude.{ℕ, Bool, true, false, not, if◌then◌else◌, List, [], ◌∷◌, ◌++◌, Option, Some, None, Result, Ok, Err}
+use Rattle.std.specs.Prelude.{⊤, ℕ, Bool, true, false, not, if◌then◌else◌, List, [], ◌∷◌, ◌++◌, Option, Some, None, Result, Ok, Err}
 use Rattle.lang_specs.specs.declared.Which.{Which}
 use Rattle.lang_specs.specs.declared.Which.TheVariants.{NameBytes, Digits}
 use Rattle.lang_specs.specs.declared.Kind.TheVariants.{Comma, EndLine}
@@ -78,3 +78,10 @@ and_then t (Err e) f = Err (record { token = t; why = e })
 unfoldable pub run : {P X : Type 0} → Machine P X → Reading P X → List Placed → Result (Reading P X) Stopped
 run machine s [] = Ok s
 run machine s (t ∷ ts) = and_then t (step machine s t) (λ u. run machine u ts)
+
+-- each item says what stands at its place
+abbrev pub AllValues : {X Y : Type 0} → (X → Y → Type 0) → List X → List Y → Type 0
+AllValues Value [] [] = ⊤
+AllValues Value [] (y ∷ ys) = ⊥
+AllValues Value (x ∷ xs) [] = ⊥
+AllValues Value (x ∷ xs) (y ∷ ys) = Value x y × AllValues Value xs ys

@@ -1,16 +1,22 @@
 //! Reads boxes, a token at a time.
 
-ghost use Rattle.std.specs.Prelude.{◌≡◌, ℕ, map, Some, None, Ok, Err, MatchOption};
+ghost use Rattle.std.specs.Prelude.{◌≡◌, ◌+◌, ◌<◌, ◌^◌, length, map, Some, None, Ok, Err, MatchOption, IfSome, IfOk, IfErr};
+ghost use Rattle.lang_specs.specs.Expressions.{AreJoined, IsBox};
+ghost use Rattle.lha_lang.specs.LineFaults.{marks, AreLiterals, IsLine, IsLineFault};
+ghost use Rattle.lha_lang.specs.BoxMachine.{IsNumValue, IsBoxValue};
 ghost use Rattle.std.specs.Option.{option_map};
 ghost use Rattle.lang_specs.specs.Marks.{mark};
+ghost use Rattle.lang_specs.specs.Tokens as tokens;
 ghost use Rattle.lha_lang.specs.Places.{placed_of};
-ghost use Rattle.lha_lang.specs.Machines.{step, run, start_of};
+ghost use Rattle.lha_lang.specs.Machines.{AllValues, step, run, start_of};
 ghost use Rattle.lha_lang.specs.BoxMachine as machine;
-ghost use Rattle.lha_lang.specs.Views.{box_of, place_of, reading_of};
+ghost use Rattle.lha_lang.specs.Views.{num_of, box_of, place_of, reading_of};
 ghost use Rattle.lha_lang.specs.Gives.{GivesAt, Gives};
 
 use crate::faults::{LineFault, is, passed_alone};
-use crate::tokens::Token;
+use crate::tokens::{Token, line_tokens, literal_value, name_of};
+use crate::trees::BoxTree;
+use frac128::Frac;
 use lang_specs::{Kind, Which};
 use std::alloc::Global;
 
@@ -217,7 +223,68 @@ pub(crate) fn read_boxes<'a>(
     Ok(reader)
 }
 
-/// That the laws hold.
-pub(crate) fn laws_hold()
-    ensures { ℕ }
-{}
+/// The number that a literal with its sign writes.
+fn number<'a>(text: NumText<'a>) -> Option<Frac>
+    ensures { IfSome result (IsNumValue (num_of text.entry)) }
+{
+    match literal_value(text.text) {
+        Ok(size) => Some(if text.neg { size.neg() } else { size }),
+        Err(_) => None,
+    }
+}
+
+/// What the box says.
+fn tree<'a>(alloc: Global, text: BoxText<'a>) -> Option<BoxTree>
+    ensures { IfSome result (IsBoxValue (box_of text.entry)) }
+{
+    let var = name_of(alloc, text.var)?;
+    let lo = number(text.lo)?;
+    let hi = number(text.hi)?;
+    Some(BoxTree::new(var, lo, hi))
+}
+
+/// What each box says.
+fn trees<'a>(alloc: Global, texts: &[BoxText<'a>]) -> Result<Vec<BoxTree>, LineFault>
+    ensures ok { IfOk result (λ v. AllValues IsBoxValue (map box_of texts.now) v.items) }
+    ensures err { IfErr result (λ e. e ≡ LineFault.Memory) }
+{
+    let mut trees = Vec::new(alloc);
+    for text in texts {
+        match tree(alloc, *text) {
+            Some(tree) => trees.push(tree)?,
+            None => return Err(LineFault::Memory),
+        }
+    }
+    Ok(trees)
+}
+
+/// The boxes that the tokens of a line spell, behind its first word.
+pub(crate) fn line_boxes<'a>(
+    alloc: Global,
+    line: u32,
+    tokens: &[Token<'a>],
+) -> Result<Vec<BoxTree>, LineFault>
+    requires { AreLiterals (marks (map (placed_of line) tokens.now)) }
+    ensures ok { IfOk result (λ v. IsLine (AreJoined IsBox) (marks (map (placed_of line) tokens.now)) v.items) }
+    ensures fault { IfErr result (IsLineFault (AreJoined IsBox) (map (placed_of line) tokens.now)) }
+{
+    let reader = read_boxes(alloc, line, tokens)?;
+    if !reader.has_ended {
+        return Err(LineFault::Memory);
+    }
+    trees(alloc, &reader.done)
+}
+
+/// The boxes that the bytes of a line spell.
+pub(crate) fn boxes_of_line(
+    alloc: Global,
+    line: u32,
+    text: &[u8],
+) -> Result<Vec<BoxTree>, LineFault>
+    requires { length text.now + 1 < 2 ^ 32 }
+    ensures ok { IfOk result (λ v. IsLine (AreJoined IsBox) (marks (tokens.line_tokens line text.now)) v.items) }
+    ensures fault { IfErr result (IsLineFault (AreJoined IsBox) (tokens.line_tokens line text.now)) }
+{
+    let found = line_tokens(alloc, line, text)?;
+    line_boxes(alloc, line, &found)
+}
