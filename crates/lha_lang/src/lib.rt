@@ -17,3 +17,6 @@ pub use trees::{
     ActParts, ActTree, BoundTree, BoundsTree, BoxTree, BoxesTree, Expr, LocTree, RowTree, RowsTree,
     Sign, Term, TransTree, Tree, Which,
 };
+
+#[cfg(test)]
+mod tests;
