@@ -1,13 +1,13 @@
-//! Reads the language of models: a text of automata, with its variables, locations and transitions, becomes trees.
+//! The trees of models and their canonical text; and of their reading the first parts: lines, tokens, and a line of boxes.
 #![tactic(auto)]
 
+mod boxes;
+mod faults;
+mod lines;
 mod pages;
 mod print;
 #[cfg(test)]
 mod print_tests;
-mod boxes;
-mod faults;
-mod lines;
 mod sequences;
 mod tokens;
 mod trees;
