@@ -1,20 +1,19 @@
 -- What is left of rows where those that say nothing more are dropped.
-use Rattle.std.proofs.Common.{◌≡◌, ◌⊎◌, inl, inr, ℕ, zero, suc, ◌<◌, Bool, true, false, not, ◌&&◌, ◌||◌, List, [], ◌∷◌, ◌++◌, length, get_or, refl, sym, subst, arith, ℤ, pos, negsuc, ◌*ℤ◌, unsigned_abs, ◌<ℤ◌}
+use Rattle.std.proofs.Common.{◌≡◌, ◌⊎◌, inl, inr, ℕ, zero, suc, ◌<◌, Bool, true, false, not, ◌&&◌, ◌||◌, List, [], ◌∷◌, ◌++◌, length, get_or, set, refl, sym, subst, arith, ℤ, pos, negsuc, ◌*ℤ◌, unsigned_abs, ◌<ℤ◌}
 use Rattle.std.proofs.lemmas.List.Elements.{All-nil, All-cons}
 use Rattle.std.specs.Prelude.{int_lt}
 use Rattle.std.proofs.lemmas.Bool.{eqb-true}
 use Rattle.std.proofs.lemmas.Int.{ints}
 use Rattle.poly_specs.proofs.IntLemmas.{mul_lt_pos}
 use Rattle.poly_specs.proofs.LinearLemmas.{Allows-below}
-use Rattle.std.specs.List.{All, Any, list_all, items_where_true}
-use Rattle.std.specs.List.Retain.{IsFiltered, ReturnsInTurn}
+use Rattle.std.specs.List.{All, list_all}
 use Rattle.poly_specs.proofs.EliminationLemmas.{AllHold-from_in, AllHold-at_in}
 use Rattle.poly_specs.proofs.InclusionLemmas.{in_left, in_right, in_either}
 use Rattle.poly_specs.proofs.RowLemmas.{Holds-dominated}
 use Rattle.poly_specs.specs.Columns.{IsDominated}
 use Rattle.poly_specs.specs.Lists.{In, IsAmong, dot}
 use Rattle.poly_specs.specs.Rows.{Point, Row, row_value, Allows, Holds, AllHold}
-use Rattle.fm_eliminate.specs.Leaving.{IsLeft, is_zero, always_holds}
+use Rattle.fm_eliminate.specs.Leaving.{IsLeft, IsAlikeAt, is_zero, always_holds}
 
 pub all_from_in : {X : Type 0} (P : X → Type 0) (xs : List X) → ((x : X) → In x xs → P x) → All P xs
 all_from_in P [] f = All-nil P
@@ -54,43 +53,58 @@ left_dropped rows r implied = left_by (rows ++ r ∷ []) rows (λ s i. in_left s
       | inr j ↦ elim j [ inl e ↦ subst (λ t. Holds t p) (sym e) (implied p d h) | inr k ↦ absurd k ]
     ])
 
--- rows that a further one dominates are dropped
-pub left_dominated : (rows kept : List Row) (r : Row) → IsAmong kept rows → ((s : Row) → In s rows → In s kept ⊎ IsDominated s r) →
-    IsLeft (rows ++ r ∷ []) (kept ++ r ∷ [])
-left_dominated rows kept r among each = left_by (rows ++ r ∷ []) (kept ++ r ∷ [])
-    (λ s i. elim (in_either s kept (r ∷ []) i) [ inl j ↦ in_left s rows (r ∷ []) (among s j) | inr j ↦ in_right s rows (r ∷ []) j ])
-    (λ p d h s i. elim (in_either s rows (r ∷ []) i) [
-      | inl j ↦ elim (each s j) [
-        | inl k ↦ AllHold-at_in (kept ++ r ∷ []) p h s (in_left s kept (r ∷ []) k)
-        | inr k ↦ Holds-dominated s r p k d (AllHold-at_in (kept ++ r ∷ []) p h r (in_right r kept (r ∷ []) (inl refl)))
+-- ---- a row that takes the place of another
+
+module _ {X : Type 0} (y : X) where
+  from_set : (xs : List X) (i : ℕ) (x : X) → In x (set xs i y) → In x xs ⊎ (x ≡ y)
+  from_set [] i x j = absurd j
+  from_set (z ∷ xs) zero x (inl e) = inr e
+  from_set (z ∷ xs) zero x (inr j) = inl (inr j)
+  from_set (z ∷ xs) (suc i) x (inl e) = inl (inl e)
+  from_set (z ∷ xs) (suc i) x (inr j) = elim (from_set xs i x j) [ inl k ↦ inl (inr k) | inr e ↦ inr e ]
+
+  in_set : (xs : List X) (i : ℕ) (x : X) → In x xs → In x (set xs i y) ⊎ (x ≡ get_or xs i y)
+  in_set [] i x j = absurd j
+  in_set (z ∷ xs) zero x (inl e) = inr e
+  in_set (z ∷ xs) zero x (inr j) = inl (inr j)
+  in_set (z ∷ xs) (suc i) x (inl e) = inl (inl e)
+  in_set (z ∷ xs) (suc i) x (inr j) = elim (in_set xs i x j) [ inl k ↦ inl (inr k) | inr e ↦ inr e ]
+
+  set_in : (xs : List X) (i : ℕ) → i < length xs → In y (set xs i y)
+  set_in [] i h = absurd (omega arith)
+  set_in (z ∷ xs) zero h = inl refl
+  set_in (z ∷ xs) (suc i) h = inr (set_in xs i (omega arith))
+
+-- a row that takes the place of one that it dominates
+left_replaced : (rows : List Row) (i : ℕ) (r : Row) → i < length rows → IsDominated (get_or rows i r) r → IsLeft (rows ++ r ∷ []) (set rows i r)
+left_replaced rows i r within dominated = left_by (rows ++ r ∷ []) (set rows i r)
+    (λ s j. elim (from_set r rows i s j) [ inl k ↦ in_left s rows (r ∷ []) k | inr e ↦ in_right s rows (r ∷ []) (inl e) ])
+    (λ p d h s j.
+    let here = AllHold-at_in (set rows i r) p h r (set_in r rows i within) in
+    elim (in_either s rows (r ∷ []) j) [
+      | inl k ↦ elim (in_set r rows i s k) [
+        | inl m ↦ AllHold-at_in (set rows i r) p h s m
+        | inr e ↦ subst (λ t. Holds t p) (sym e) (Holds-dominated (get_or rows i r) r p dominated d here)
       ]
-      | inr j ↦ AllHold-at_in (kept ++ r ∷ []) p h s (in_right s kept (r ∷ []) j)
+      | inr k ↦ elim k [ inl e ↦ subst (λ t. Holds t p) (sym e) here | inr m ↦ absurd m ]
     ])
 
--- what a test keeps, and what it drops
-pub retained : {X F : Type 0} (R : F → X → Bool → F → Type 0) (P : X → Type 0) (f : F) →
-    ((x : X) (b : Bool) (g : F) → R f x b g → (b ≡ false → P x) × (g ≡ f)) →
-    (xs ys : List X) → IsFiltered R f xs ys → IsAmong ys xs × ((x : X) → In x xs → In x ys ⊎ P x)
-retained {X} {F} R P f says xs ys (bs, q, sized, calls, kept) =
-    subst (λ zs. IsAmong zs xs × ((x : X) → In x xs → In x zs ⊎ P x)) (sym kept) (go bs xs sized f refl calls)
-  where
-    go : (bs : List Bool) (xs : List X) → length bs ≡ length xs → (g : F) → g ≡ f → ReturnsInTurn R g bs xs q →
-        IsAmong (items_where_true bs xs) xs × ((x : X) → In x xs → In x (items_where_true bs xs) ⊎ P x)
-    go [] [] s g e c = (λ x i. i, λ x i. absurd i)
-    go [] (x ∷ xs) s g e c = absurd (omega arith)
-    go (b ∷ bs) [] s g e c = absurd c
-    go (true ∷ bs) (x ∷ xs) s g e (j, r, c) =
-        let here = says x true j (subst (λ h. R h x true j) e r) in
-        let rest = go bs xs (omega arith) j here.1 c in (
-          λ y i. elim i [ inl d ↦ inl d | inr k ↦ inr (rest.0 y k) ],
-          λ y i. elim i [ inl d ↦ inl (inl d) | inr k ↦ elim (rest.1 y k) [ inl m ↦ inl (inr m) | inr m ↦ inr m ] ],
-        )
-    go (false ∷ bs) (x ∷ xs) s g e (j, r, c) =
-        let here = says x false j (subst (λ h. R h x false j) e r) in
-        let rest = go bs xs (omega arith) j here.1 c in (
-          λ y i. inr (rest.0 y i),
-          λ y i. elim i [ inl d ↦ inr (subst P (sym d) (here.0 refl)) | inr k ↦ rest.1 y k ],
-        )
+same_item : {X : Type 0} (xs : List X) (i : ℕ) (d e : X) → i < length xs → get_or xs i d ≡ get_or xs i e
+same_item [] i d e h = absurd (omega arith)
+same_item (x ∷ xs) zero d e h = refl
+same_item (x ∷ xs) (suc i) d e h = same_item xs i d e (omega arith)
+
+-- a row beside one with the same coefficients, which dominates it or not
+module _ (rows : List Row) (i : ℕ) (r : Row) (alike : IsAlikeAt rows i r) (d : Row) where
+  pub left_kept : IsDominated r (get_or rows i d) → IsLeft (rows ++ r ∷ []) rows
+  left_kept dominated = left_dropped rows r (λ p e h.
+      Holds-dominated r (get_or rows i d) p dominated e (AllHold-at_in rows p h (get_or rows i d) (in_get_or rows i d alike.within)))
+
+  pub left_tightened : (IsDominated r (get_or rows i d) → ⊥) → IsLeft (rows ++ r ∷ []) (set rows i r)
+  left_tightened n = elim alike.alike [
+    | inl e ↦ absurd (n (subst (IsDominated r) (same_item rows i r d alike.within) e))
+    | inr e ↦ left_replaced rows i r alike.within e
+  ]
 
 -- ---- rows that always hold
 
@@ -137,7 +151,3 @@ idle-Holds r p a d =
 
 pub left_idle : (rows : List Row) (r : Row) → always_holds r ≡ true → IsLeft (rows ++ r ∷ []) rows
 left_idle rows r a = left_dropped rows r (λ p d h. idle-Holds r p a d)
-
-pub left_implied : (rows : List Row) (r : Row) → Any (λ s. IsDominated r s) rows → IsLeft (rows ++ r ∷ []) rows
-left_implied rows r (k, s, lt, at, dominated) =
-    left_dropped rows r (λ p d h. Holds-dominated r s p dominated d (subst (λ t. Holds t p) at (h k s lt)))

@@ -1,6 +1,7 @@
 -- What is left of rows where those that say nothing more are dropped.
-use Rattle.std.specs.Prelude.{◌≡◌, ℕ, ◌==◌, ◌&&◌, ◌||◌, not, if◌then◌else◌, Bool, IsFalse, List, map, ℤ, pos, ◌<ℤ◌, int_lt, unsigned_abs}
+use Rattle.std.specs.Prelude.{◌≡◌, ◌⊎◌, ℕ, ◌<◌, ◌==◌, ◌&&◌, ◌||◌, not, if◌then◌else◌, Bool, IsFalse, List, map, length, ℤ, pos, ◌<ℤ◌, int_lt, unsigned_abs, slice_index_or}
 use Rattle.std.specs.List.{list_all}
+use Rattle.poly_specs.specs.Columns.{IsDominated}
 use Rattle.poly_specs.specs.Lists.{In, IsAmong}
 use Rattle.poly_specs.specs.Rows.{Point, Row, coef_at, AllHold}
 use Rattle.poly_specs.specs.Elimination.{combination, uppers}
@@ -10,6 +11,15 @@ use Rattle.poly_specs.specs.Systems.{negated}
 pub record IsLeft (rows left : List Row) : Type 0 where
   pub among : IsAmong left rows
   pub enough : (p : Point) → pos 0 <ℤ p.den → AllHold left p → AllHold rows p
+
+-- one of the two rows dominates the other: they have the same coefficients
+abbrev pub AreAlike : Row → Row → Type 0
+AreAlike r s = IsDominated r s ⊎ IsDominated s r
+
+-- at this place stands a row with the same coefficients
+pub record IsAlikeAt (rows : List Row) (place : ℕ) (r : Row) : Type 0 where
+  pub within : place < length rows
+  pub alike : AreAlike r (slice_index_or rows place r)
 
 -- the number is 0
 abbrev pub is_zero : ℤ → Bool

@@ -10,7 +10,7 @@ ghost use Rattle.poly_specs.specs.Systems.{IsProjection, IsEquation};
 ghost use Rattle.fm_eliminate.specs.Leaving.{IsLeft, IsPivot, is_needed, combinations, replaced};
 
 use crate::coefficients::coefficient;
-use crate::kept_rows::add_row;
+use crate::kept_rows::KeptRows;
 use crate::pivots::find_pivot;
 use crate::{RowFault, System};
 use lin_row::{Passes, Row};
@@ -38,7 +38,7 @@ fn replace(row: &Row, lower: &Row, upper: &Row, x: usize) -> Result<Row, Passes>
 
 /// Adds the rows, each replaced where it has a coefficient in column `x`.
 fn add_replaced(
-    kept: &mut Vec<Row>,
+    kept: &mut KeptRows,
     rows: &[Row],
     lower: &Row,
     upper: &Row,
@@ -47,51 +47,51 @@ fn add_replaced(
     requires within { x < length lower.now.coef }
     requires wide { AllWide (length lower.now.coef) rows.now }
     requires pivot { IsPivot x rows.now lower.now upper.now }
-    ensures ok { OnOk result (IsLeft (kept.old.items ++ map (replaced x lower.now upper.now) rows.now) kept.new.items) }
-    ensures few { OnOk result (length kept.new.items ≤ length kept.old.items + length (filter is_needed (map (replaced x lower.now upper.now) rows.now))) }
+    ensures ok { OnOk result (IsLeft (kept.old ++ map (replaced x lower.now upper.now) rows.now) kept.new) }
+    ensures few { OnOk result (length kept.new ≤ length kept.old + length (filter is_needed (map (replaced x lower.now upper.now) rows.now))) }
     ensures passes { result ≡ Err RowFault.Passes → SomePasses (formed x rows.now) }
 {
     for row in rows {
-        add_row(kept, replace(row, lower, upper, x)?)?;
+        kept.add_row(replace(row, lower, upper, x)?)?;
     }
     Ok(())
 }
 
 /// Adds the rows without column `x`.
-fn add_free(kept: &mut Vec<Row>, rows: &[Row], x: usize) -> Result<(), AllocError>
+fn add_free(kept: &mut KeptRows, rows: &[Row], x: usize) -> Result<(), AllocError>
     requires within { All (λ r. x < length r.coef) rows.now }
-    ensures { OnOk result (IsLeft (kept.old.items ++ free_of x rows.now) kept.new.items) }
+    ensures { OnOk result (IsLeft (kept.old ++ free_of x rows.now) kept.new) }
 {
     for row in rows {
         if coefficient(row, x) == 0 {
-            add_row(kept, row.copy())?;
+            kept.add_row(row.copy())?;
         }
     }
     Ok(())
 }
 
 /// Adds the combinations of a lower row with the upper ones.
-fn add_pairs_of(kept: &mut Vec<Row>, lower: &Row, rows: &[Row], x: usize) -> Result<(), RowFault>
+fn add_pairs_of(kept: &mut KeptRows, lower: &Row, rows: &[Row], x: usize) -> Result<(), RowFault>
     requires within { x < length lower.now.coef }
     requires wide { AllWide (length lower.now.coef) rows.now }
     requires lower { coef_at x lower.now <ℤ pos 0 }
     requires among { In lower.now rows.now }
-    ensures ok { OnOk result (IsLeft (kept.old.items ++ combinations x rows.now lower.now) kept.new.items) }
+    ensures ok { OnOk result (IsLeft (kept.old ++ combinations x rows.now lower.now) kept.new) }
     ensures passes { result ≡ Err RowFault.Passes → SomePasses (formed x rows.now) }
 {
     for upper in rows {
         if coefficient(upper, x) > 0 {
-            add_row(kept, Row::combine(lower, upper, x)?)?;
+            kept.add_row(Row::combine(lower, upper, x)?)?;
         }
     }
     Ok(())
 }
 
 /// Adds the combinations of each lower row with the upper ones.
-fn add_pairs(kept: &mut Vec<Row>, rows: &[Row], width: usize, x: usize) -> Result<(), RowFault>
+fn add_pairs(kept: &mut KeptRows, rows: &[Row], width: usize, x: usize) -> Result<(), RowFault>
     requires within { x < width }
     requires wide { AllWide width rows.now }
-    ensures ok { OnOk result (IsLeft (kept.old.items ++ flat_map (combinations x rows.now) (lowers x rows.now)) kept.new.items) }
+    ensures ok { OnOk result (IsLeft (kept.old ++ flat_map (combinations x rows.now) (lowers x rows.now)) kept.new) }
     ensures passes { result ≡ Err RowFault.Passes → SomePasses (formed x rows.now) }
 {
     for lower in rows {
@@ -111,8 +111,8 @@ impl System {
     /// each upper one. The rows without the column come first, in their order, then the
     /// combinations, in the order of the lower rows and for each of the upper ones; with an
     /// equation all stand in the order of the rows. A row that a kept one dominates, or that always
-    /// holds, is left out, and a kept row that a new one dominates is dropped. So equal systems
-    /// leave equal ones.
+    /// holds, is left out, and one that dominates a kept row takes its place. So equal systems leave
+    /// equal ones.
     ///
     /// `Passes` where a number that is formed passes 128 bits, and `Memory` where there is none.
     pub fn eliminate(&self, alloc: Global, x: usize) -> Result<System, RowFault>
@@ -141,9 +141,9 @@ impl System {
         ensures few { IfOk result (λ v. length v.items + 2 ≤ length self.now.rows) }
         ensures passes { result ≡ Err RowFault.Passes → SomePasses (formed x self.now.rows) }
     {
-        let mut kept = Vec::new(alloc);
+        let mut kept = KeptRows::new(alloc);
         add_replaced(&mut kept, self.rows(), lower, upper, x)?;
-        Ok(kept)
+        Ok(kept.into_rows())
     }
 
     fn left_of_pairs(&self, alloc: Global, x: usize) -> Result<Vec<Row>, RowFault>
@@ -151,9 +151,9 @@ impl System {
         ensures ok { IfOk result (λ v. IsProjection self.now.width x self.now.rows v.items) }
         ensures passes { result ≡ Err RowFault.Passes → SomePasses (formed x self.now.rows) }
     {
-        let mut kept = Vec::new(alloc);
+        let mut kept = KeptRows::new(alloc);
         add_free(&mut kept, self.rows(), x)?;
         add_pairs(&mut kept, self.rows(), self.width(), x)?;
-        Ok(kept)
+        Ok(kept.into_rows())
     }
 }

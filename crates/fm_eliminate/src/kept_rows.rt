@@ -1,29 +1,94 @@
 //! Rows that are kept as they are formed, without those that say nothing more.
 
-ghost use Rattle.std.specs.Prelude.{◌≡◌, ◌↔◌, ◌+◌, ◌<◌, ◌≤◌, ◌++◌, ◌∷◌, [], Any, IsTrue, OnOk, OnErr, length, if◌then◌else◌, ◌||◌, ◌&&◌, not, int_lt, pos};
+ghost use Rattle.std.specs.Prelude.{◌≡◌, ◌↔◌, ◌⊎◌, ◌+◌, ◌<◌, ◌≤◌, ◌++◌, ◌∷◌, [], IsTrue, IfSome, OnOk, OnErr, length, if◌then◌else◌, ◌||◌, ◌&&◌, not, int_lt, pos, slice_set};
 ghost use Rattle.std.specs.List.{list_all};
-ghost use Rattle.std.specs.Vec.{vec_capacity};
-ghost use Rattle.poly_specs.specs.Columns.{IsDominated};
-ghost use Rattle.fm_eliminate.specs.Leaving.{IsLeft, is_zero, always_holds};
+ghost use Rattle.fm_eliminate.specs.Leaving.{IsLeft, IsAlikeAt, is_zero, always_holds};
 
+use crate::places::{Places, digest};
 use lin_row::Row;
-use std::alloc::AllocError;
+use std::alloc::{AllocError, Global};
+use std::marker::Model;
 
-/// Adds a row to the kept ones. It is left out where it always holds or a kept row dominates it;
-/// else it stands last, and the rows that it dominates are dropped. After an error nothing has
-/// changed.
-pub fn add_row(kept: &mut Vec<Row>, row: Row) -> Result<(), AllocError>
-    ensures ok { OnOk result (IsLeft (kept.old.items ++ row ∷ []) kept.new.items) }
-    ensures few { length kept.new.items ≤ length kept.old.items + (if always_holds row then 0 else 1) }
-    ensures err { OnErr result (kept.new.items ≡ kept.old.items) }
-{
-    if is_idle(&row) || is_dominated(&row, kept.as_slice()) {
-        return Ok(());
+/// Rows of which no two have the same coefficients.
+#[derive(Debug, Drop)]
+pub struct KeptRows {
+    rows: Vec<Row>,
+    places: Places,
+}
+
+impl Model for KeptRows {
+    ghost use Rattle.std.specs.Prelude.{List};
+    ghost use Rattle.poly_specs.specs.Rows.{Row as RowValue};
+
+    ghost Value = { List RowValue };
+
+    ghost view = { λ k. k.rows.items };
+}
+
+impl KeptRows {
+    /// No rows.
+    pub fn new(alloc: Global) -> KeptRows
+        ensures { result ≡ [] }
+    {
+        KeptRows {
+            rows: Vec::new(alloc),
+            places: Places::new(alloc),
+        }
     }
-    kept.reserve(1)?;
-    drop_dominated(kept, &row);
-    kept.push_reserved(row);
-    Ok(())
+
+    /// The rows, in their order.
+    pub fn into_rows(self) -> Vec<Row>
+        ensures { result.items ≡ self }
+    {
+        self.rows
+    }
+
+    /// Adds a row. It is left out where it always holds or a kept row dominates it; it takes the
+    /// place of a kept row that it dominates; else it stands last. After an error nothing has
+    /// changed.
+    pub fn add_row(&mut self, row: Row) -> Result<(), AllocError>
+        ensures ok { OnOk result (IsLeft (self.old ++ row ∷ []) self.new) }
+        ensures few { length self.new ≤ length self.old + (if always_holds row then 0 else 1) }
+        ensures err { OnErr result (self.new ≡ self.old) }
+    {
+        if is_idle(&row) {
+            return Ok(());
+        }
+        let digest = digest(row.coef());
+        match self.find(&row, digest) {
+            Some(place) => {
+                tighten(self.rows.as_mut_slice(), place, row);
+                Ok(())
+            }
+            None => self.push(row, digest),
+        }
+    }
+
+    /// Where a row stands that has the coefficients of this one.
+    fn find(&self, row: &Row, digest: usize) -> Option<usize>
+        ensures { IfSome result (λ place. IsAlikeAt self.now place row.now) }
+    {
+        for steps in 0..self.places.len() {
+            let entry = self.places.entry(digest, steps);
+            let place = entry.place()?;
+            if entry.has(digest) && is_alike(self.rows.as_slice(), place, row) {
+                return Some(place);
+            }
+        }
+        None
+    }
+
+    /// Adds a row that has coefficients of its own.
+    fn push(&mut self, row: Row, digest: usize) -> Result<(), AllocError>
+        ensures ok { OnOk result (self.new ≡ self.old ++ row ∷ []) }
+        ensures err { OnErr result (self.new ≡ self.old) }
+    {
+        self.places.reserve(*self.rows.allocator())?;
+        let place = self.rows.len();
+        self.rows.push(row)?;
+        self.places.add(digest, place);
+        Ok(())
+    }
 }
 
 fn all_zero(numbers: &[i128]) -> bool
@@ -45,18 +110,28 @@ fn is_idle(row: &Row) -> bool
     all_zero(row.coef()) && is_low(row.cst(), row.strict())
 }
 
-/// Whether one of the others dominates the row.
-fn is_dominated(row: &Row, others: &[Row]) -> bool
-    ensures { IsTrue result ↔ Any (λ other. IsDominated row.now other) others.now }
+/// Whether the row at this place has the coefficients of the other: then one of them dominates the
+/// other.
+fn is_alike(rows: &[Row], place: usize, row: &Row) -> bool
+    ensures { IsTrue result ↔ IsAlikeAt rows.now place row.now }
 {
-    others.iter().any(|other| Row::dominated(row, other))
+    place < rows.len() && (Row::dominated(row, &rows[place]) || Row::dominated(&rows[place], row))
 }
 
-/// Drops the rows that this one dominates.
-fn drop_dominated(rows: &mut Vec<Row>, row: &Row)
-    ensures left { IsLeft (rows.old.items ++ row.now ∷ []) (rows.new.items ++ row.now ∷ []) }
-    ensures few { length rows.new.items ≤ length rows.old.items }
-    ensures room { vec_capacity rows.new ≡ vec_capacity rows.old }
+/// Puts the row in place of one with the same coefficients, unless that one dominates it.
+fn tighten(rows: &mut [Row], place: usize, row: Row)
+    requires { IsAlikeAt rows.old place row }
+    ensures left { IsLeft (rows.old ++ row ∷ []) rows.new }
+    ensures few { length rows.new ≡ length rows.old }
 {
-    rows.retain(|other| !Row::dominated(other, row));
+    if !Row::dominated(&row, &rows[place]) {
+        put(rows, place, row);
+    }
+}
+
+fn put(rows: &mut [Row], place: usize, row: Row)
+    requires { place < length rows.old }
+    ensures { rows.new ≡ slice_set rows.old place row }
+{
+    rows[place] = row;
 }

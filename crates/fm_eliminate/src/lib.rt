@@ -9,6 +9,7 @@ mod holding;
 mod kept_rows;
 mod moves;
 mod pivots;
+mod places;
 mod systems;
 #[cfg(test)]
 mod tests;

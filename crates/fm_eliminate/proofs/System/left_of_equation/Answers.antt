@@ -1,6 +1,7 @@
 use Rattle.std.proofs.Common.{◌<◌, ◌++◌, length, map, filter, sym, subst, arith, ap}
 use Rattle.poly_specs.proofs.EliminationLemmas.{width_in}
 use Rattle.poly_specs.specs.Rows.{AllWide}
+use Rattle.poly_specs.specs.Systems.{IsProjection}
 use Rattle.fm_eliminate.specs.Leaving.{IsLeft, is_needed, replaced}
 use Rattle.fm_eliminate.proofs.EquationLemmas.{equation_count}
 use Rattle.fm_eliminate.proofs.SubstitutionLemmas.{pivot_projection}
@@ -14,11 +15,12 @@ add_replaced-requires-clause-wide c =
 
 pub returns-clause-ok : goal.returns-clause-ok
 returns-clause-ok c =
-    let fresh = subst (λ items. IsLeft (items ++ map (replaced c.args.x c.args.lower.now c.args.upper.now) c.rows.result.now) c.add_replaced.new.kept.items)
-    c.new-kept.ensures.items c.in_ok-add_replaced.ensures.ok in
-    let left = subst (λ rows. IsLeft (map (replaced c.args.x c.args.lower.now c.args.upper.now) rows) c.add_replaced.new.kept.items) c.rows.ensures.value fresh in
-    pivot_projection c.args.self.now.width c.args.x c.args.self.now.rows c.add_replaced.new.kept.items c.args.lower.now c.args.upper.now
-    c.requires.within c.rows.ensures.kept.wide c.requires.pivot left
+    let fresh = subst (λ items. IsLeft (items ++ map (replaced c.args.x c.args.lower.now c.args.upper.now) c.rows.result.now) c.add_replaced.new.kept)
+    c.new-kept.ensures c.in_ok-add_replaced.ensures.ok in
+    let left = subst (λ rows. IsLeft (map (replaced c.args.x c.args.lower.now c.args.upper.now) rows) c.add_replaced.new.kept) c.rows.ensures.value fresh in
+    subst (IsProjection c.args.self.now.width c.args.x c.args.self.now.rows) (sym c.into_rows.ensures)
+    (pivot_projection c.args.self.now.width c.args.x c.args.self.now.rows c.add_replaced.new.kept c.args.lower.now c.args.upper.now
+    c.requires.within c.rows.ensures.kept.wide c.requires.pivot left)
 
 pub returns-clause-few : goal.returns-clause-few
 returns-clause-few c =
@@ -27,5 +29,6 @@ returns-clause-few c =
     let count = equation_count c.args.x c.args.self.now.rows c.args.lower.now c.args.upper.now within c.requires.pivot in
     let few = c.in_ok-add_replaced.ensures.few in
     let same = ap (λ rows. length (filter is_needed (map (replaced c.args.x c.args.lower.now c.args.upper.now) rows))) c.rows.ensures.value in
-    let none = ap length c.new-kept.ensures.items in
-    omega (arith, few, same, none, count)
+    let none = ap length c.new-kept.ensures in
+    let all = ap length c.into_rows.ensures in
+    omega (arith, few, same, none, all, count)

@@ -13,11 +13,11 @@ loop-row-preserved c =
     elim c.if-coefficient-eq0.branch [
       | then-coefficient-eq0+in_ok-add_row w ↦ (
           let none : coef_at c.args.x c.row-item.result ≡ pos 0 = search rules in
-          let one = subst (λ r. IsLeft (c.loop-row.kept.items ++ r ∷ []) w.add_row.new.kept.items) w.copy.ensures w.in_ok-add_row.ensures.ok in
-          subst (λ k. IsLeft (c.args.kept.now.items ++ free_of c.args.x (take (i + 1) c.args.rows.now)) k.items) (sym w.kept-is)
-          (free_step c.args.x c.args.rows.now i c.row-item.result within c.row-item.is c.args.kept.now.items c.loop-row.kept.items w.add_row.new.kept.items none c.loop-row.invariant one))
+          let one = subst (λ r. IsLeft (c.loop-row.kept ++ r ∷ []) w.add_row.new.self) w.copy.ensures w.in_ok-add_row.ensures.ok in
+          subst (λ k. IsLeft (c.args.kept.now ++ free_of c.args.x (take (i + 1) c.args.rows.now)) k) (sym w.kept-is)
+          (free_step c.args.x c.args.rows.now i c.row-item.result within c.row-item.is c.args.kept.now c.loop-row.kept w.add_row.new.self none c.loop-row.invariant one))
       | else-coefficient-eq0 w ↦ (
           let some : coef_at c.args.x c.row-item.result ≢ pos 0 = search rules in
-          subst (λ k. IsLeft (c.args.kept.now.items ++ free_of c.args.x (take (i + 1) c.args.rows.now)) k.items) (sym w.kept-is)
-          (free_stay c.args.x c.args.rows.now i c.row-item.result within c.row-item.is c.args.kept.now.items c.loop-row.kept.items some c.loop-row.invariant))
+          subst (λ k. IsLeft (c.args.kept.now ++ free_of c.args.x (take (i + 1) c.args.rows.now)) k) (sym w.kept-is)
+          (free_stay c.args.x c.args.rows.now i c.row-item.result within c.row-item.is c.args.kept.now c.loop-row.kept some c.loop-row.invariant))
     ]

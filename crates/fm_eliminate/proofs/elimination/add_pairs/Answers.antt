@@ -18,11 +18,11 @@ loop-lower-preserved c =
     elim c.if-coefficient-lt0.branch [
       | then-coefficient-lt0+in_ok-add_pairs_of w ↦ (
           let below : coef_at c.args.x c.lower-item.result <ℤ pos 0 = search rules in
-          subst (λ k. IsLeft (c.args.kept.now.items ++ flat_map (combinations c.args.x c.args.rows.now) (lowers c.args.x (take (i + 1) c.args.rows.now))) k.items) (sym w.kept-is)
-          (lower_step c.args.x c.args.rows.now i c.lower-item.result within c.lower-item.is c.args.kept.now.items c.loop-lower.kept.items w.add_pairs_of.new.kept.items below
+          subst (λ k. IsLeft (c.args.kept.now ++ flat_map (combinations c.args.x c.args.rows.now) (lowers c.args.x (take (i + 1) c.args.rows.now))) k) (sym w.kept-is)
+          (lower_step c.args.x c.args.rows.now i c.lower-item.result within c.lower-item.is c.args.kept.now c.loop-lower.kept w.add_pairs_of.new.kept below
           c.loop-lower.invariant w.in_ok-add_pairs_of.ensures.ok))
       | else-coefficient-lt0 w ↦ (
           let high : pos 0 ≤ℤ coef_at c.args.x c.lower-item.result = search rules in
-          subst (λ k. IsLeft (c.args.kept.now.items ++ flat_map (combinations c.args.x c.args.rows.now) (lowers c.args.x (take (i + 1) c.args.rows.now))) k.items) (sym w.kept-is)
-          (lower_stay c.args.x c.args.rows.now i c.lower-item.result within c.lower-item.is c.args.kept.now.items c.loop-lower.kept.items high c.loop-lower.invariant))
+          subst (λ k. IsLeft (c.args.kept.now ++ flat_map (combinations c.args.x c.args.rows.now) (lowers c.args.x (take (i + 1) c.args.rows.now))) k) (sym w.kept-is)
+          (lower_stay c.args.x c.args.rows.now i c.lower-item.result within c.lower-item.is c.args.kept.now c.loop-lower.kept high c.loop-lower.invariant))
     ]

@@ -5,4 +5,4 @@ use Rattle.fm_eliminate.specs.Leaving.{IsLeft, combinations}
 use Rattle.fm_eliminate.proofs.elimination.add_pairs.Given as goal
 
 abbrev pub invariant-loop-lower : goal.invariant-loop-lower
-invariant-loop-lower l = IsLeft (l.initial.kept.items ++ flat_map (combinations l.x l.rows) (lowers l.x (take l.lower-index l.rows))) l.kept.items
+invariant-loop-lower l = IsLeft (l.initial.kept ++ flat_map (combinations l.x l.rows) (lowers l.x (take l.lower-index l.rows))) l.kept

@@ -20,12 +20,12 @@ loop-upper-preserved c =
     elim c.if-coefficient-gt0.branch [
       | then-coefficient-gt0+in_ok-combine+in_ok-add_row w ↦ (
           let above : pos 0 <ℤ coef_at c.args.x c.upper-item.result = search rules in
-          let one = subst (λ r. IsLeft (c.loop-upper.kept.items ++ r ∷ []) w.add_row.new.kept.items) w.in_ok-combine.ensures.ok.0 w.in_ok-add_row.ensures.ok in
-          subst (λ k. IsLeft (c.args.kept.now.items ++ combinations c.args.x (take (i + 1) c.args.rows.now) c.args.lower.now) k.items) (sym w.kept-is)
-          (upper_step c.args.x c.args.rows.now i c.upper-item.result within c.upper-item.is c.args.lower.now c.args.kept.now.items c.loop-upper.kept.items w.add_row.new.kept.items above
+          let one = subst (λ r. IsLeft (c.loop-upper.kept ++ r ∷ []) w.add_row.new.self) w.in_ok-combine.ensures.ok.0 w.in_ok-add_row.ensures.ok in
+          subst (λ k. IsLeft (c.args.kept.now ++ combinations c.args.x (take (i + 1) c.args.rows.now) c.args.lower.now) k) (sym w.kept-is)
+          (upper_step c.args.x c.args.rows.now i c.upper-item.result within c.upper-item.is c.args.lower.now c.args.kept.now c.loop-upper.kept w.add_row.new.self above
           c.loop-upper.invariant one))
       | else-coefficient-gt0 w ↦ (
           let low : coef_at c.args.x c.upper-item.result ≤ℤ pos 0 = search rules in
-          subst (λ k. IsLeft (c.args.kept.now.items ++ combinations c.args.x (take (i + 1) c.args.rows.now) c.args.lower.now) k.items) (sym w.kept-is)
-          (upper_stay c.args.x c.args.rows.now i c.upper-item.result within c.upper-item.is c.args.lower.now c.args.kept.now.items c.loop-upper.kept.items low c.loop-upper.invariant))
+          subst (λ k. IsLeft (c.args.kept.now ++ combinations c.args.x (take (i + 1) c.args.rows.now) c.args.lower.now) k) (sym w.kept-is)
+          (upper_stay c.args.x c.args.rows.now i c.upper-item.result within c.upper-item.is c.args.lower.now c.args.kept.now c.loop-upper.kept low c.loop-upper.invariant))
     ]

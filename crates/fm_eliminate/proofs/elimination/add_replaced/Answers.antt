@@ -15,9 +15,9 @@ loop-row-preserved c =
     let within : i < length c.args.rows.now = omega arith in
     let made = c.in_ok-replace.ensures.ok in
     let more = map_taken c.args.rows.now i c.row-item.result within c.row-item.is (replaced c.args.x c.args.lower.now c.args.upper.now) in
-    let one = subst (λ r. IsLeft (c.loop-row.kept.items ++ r ∷ []) c.add_row.new.kept.items) made c.in_ok-add_row.ensures.ok in
-    let few = subst (λ r. length c.add_row.new.kept.items ≤ length c.loop-row.kept.items + cond (always_holds r) 0 1) made c.add_row.ensures.few in
+    let one = subst (λ r. IsLeft (c.loop-row.kept ++ r ∷ []) c.add_row.new.self) made c.in_ok-add_row.ensures.ok in
+    let few = subst (λ r. length c.add_row.new.self ≤ length c.loop-row.kept + cond (always_holds r) 0 1) made c.add_row.ensures.few in
     record {
-      left = left_on c.args.kept.now.items _ _ _ c.loop-row.kept.items _ c.loop-row.invariant.left one more;
-      few = few_more (length c.args.kept.now.items) (length c.loop-row.kept.items) (length c.add_row.new.kept.items) _ _ _ c.loop-row.invariant.few few more;
+      left = left_on c.args.kept.now _ _ _ c.loop-row.kept _ c.loop-row.invariant.left one more;
+      few = few_more (length c.args.kept.now) (length c.loop-row.kept) (length c.add_row.new.self) _ _ _ c.loop-row.invariant.few few more;
     }

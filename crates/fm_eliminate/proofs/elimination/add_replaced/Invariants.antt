@@ -4,6 +4,6 @@ use Rattle.fm_eliminate.proofs.elimination.add_replaced.Given as goal
 
 abbrev pub invariant-loop-row : goal.invariant-loop-row
 invariant-loop-row l = record {
-  left : IsLeft (l.initial.kept.items ++ map (replaced l.x l.lower l.upper) (take l.row-index l.rows)) l.kept.items;
-  few : length l.kept.items ≤ length l.initial.kept.items + length (filter is_needed (map (replaced l.x l.lower l.upper) (take l.row-index l.rows)));
+  left : IsLeft (l.initial.kept ++ map (replaced l.x l.lower l.upper) (take l.row-index l.rows)) l.kept;
+  few : length l.kept ≤ length l.initial.kept + length (filter is_needed (map (replaced l.x l.lower l.upper) (take l.row-index l.rows)));
 }
