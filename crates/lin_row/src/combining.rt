@@ -7,7 +7,7 @@ ghost use Rattle.poly_specs.specs.Lists.{plus};
 ghost use Rattle.poly_specs.specs.Rows.{Point, Holds, coef_at};
 ghost use Rattle.lin_row.specs.Mixing.{RowsFit, mixed_numbers};
 
-use crate::numbers::{greatest_divisor, sum_of_two};
+use crate::numbers::{greatest_divisor, sum_of_two, whole_part};
 use crate::{Passes, Row};
 use smallvec::SmallVec;
 use std::alloc::Global;
@@ -82,7 +82,7 @@ fn factors(lower: i128, upper: i128) -> (i128, i128)
     let a = lower.unsigned_abs();
     let b = upper.unsigned_abs();
     let shared = greatest_divisor(a, b);
-    ((b / shared) as i128, (a / shared) as i128)
+    (whole_part(b, shared) as i128, whole_part(a, shared) as i128)
 }
 
 /// The sums of the coefficients' multiples, where none of the three passes 128 bits.

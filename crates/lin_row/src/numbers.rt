@@ -1,6 +1,6 @@
 //! Arithmetic on 128-bit integers, where a result that passes 128 bits is no result.
 
-ghost use Rattle.std.specs.Prelude.{◌≡◌, ◌↔◌, ◌<◌, ◌^◌, false, max, All, map, pos, ◌<ℤ◌, ◌*ℤ◌, ◌+ℤ◌, ◌≤◌, length, int_div, SomeIff, IsTrue};
+ghost use Rattle.std.specs.Prelude.{◌≡◌, ◌↔◌, ◌<◌, ◌^◌, ◌/◌, ◌%◌, false, max, All, map, pos, ◌<ℤ◌, ◌*ℤ◌, ◌+ℤ◌, ◌≤◌, length, int_div, unsigned_abs, SomeIff, IsTrue};
 ghost use Rattle.poly_specs.specs.Bits.{FitsBits};
 ghost use Rattle.poly_specs.specs.Elimination.{gcd, divisor};
 
@@ -51,13 +51,86 @@ pub fn add_product(sum: i128, a: i128, b: i128) -> Option<i128>
     kept_sum(sum, product)
 }
 
+/// Whether the number is so small that two products of such numbers, and their sum, fit.
+#[inline]
+fn is_small(number: i128) -> bool
+    ensures { IsTrue result ↔ (unsigned_abs number < 2 ^ 62) }
+{
+    number > -0x4000_0000_0000_0000 && number < 0x4000_0000_0000_0000
+}
+
+/// The product of two small numbers.
+#[inline]
+fn small_product(a: i128, b: i128) -> i128
+    requires a { unsigned_abs a < 2 ^ 62 }
+    requires b { unsigned_abs b < 2 ^ 62 }
+    ensures value { result ≡ a *ℤ b }
+    ensures size { unsigned_abs (a *ℤ b) < 2 ^ 124 }
+{
+    a * b
+}
+
+/// The sum of two products of small numbers.
+#[inline]
+fn small_sum(p: i128, a: i128, q: i128, b: i128) -> i128
+    requires p { unsigned_abs p < 2 ^ 62 }
+    requires a { unsigned_abs a < 2 ^ 62 }
+    requires q { unsigned_abs q < 2 ^ 62 }
+    requires b { unsigned_abs b < 2 ^ 62 }
+    ensures value { result ≡ p *ℤ a +ℤ q *ℤ b }
+    ensures fits { FitsBits (p *ℤ a) × FitsBits (q *ℤ b) × FitsBits (p *ℤ a +ℤ q *ℤ b) }
+{
+    small_product(p, a) + small_product(q, b)
+}
+
 /// The sum of two products, where none of the three passes 128 bits.
+#[inline]
 pub fn sum_of_two(p: i128, a: i128, q: i128, b: i128) -> Option<i128>
+    ensures { SomeIff result (FitsBits (p *ℤ a) × FitsBits (q *ℤ b) × FitsBits (p *ℤ a +ℤ q *ℤ b)) (p *ℤ a +ℤ q *ℤ b) }
+{
+    if is_small(p) && is_small(a) && is_small(q) && is_small(b) {
+        return Some(small_sum(p, a, q, b));
+    }
+    large_sum(p, a, q, b)
+}
+
+/// The sum of two products of any numbers.
+fn large_sum(p: i128, a: i128, q: i128, b: i128) -> Option<i128>
     ensures { SomeIff result (FitsBits (p *ℤ a) × FitsBits (q *ℤ b) × FitsBits (p *ℤ a +ℤ q *ℤ b)) (p *ℤ a +ℤ q *ℤ b) }
 {
     let left = kept_product(p, a)?;
     let right = kept_product(q, b)?;
     kept_sum(left, right)
+}
+
+/// The remainder of a division. Most numbers are small: a division of 64 bits is fast.
+#[inline]
+fn remainder(x: u128, y: u128) -> u128
+    requires { 0 < y }
+    ensures { result ≡ x % y }
+{
+    if x < y {
+        return x;
+    }
+    if x < 0x1_0000_0000_0000_0000 {
+        return u128::from(x as u64 % y as u64);
+    }
+    x % y
+}
+
+/// The quotient of a division, fast where the numbers are small.
+#[inline]
+pub fn whole_part(x: u128, y: u128) -> u128
+    requires { 0 < y }
+    ensures { result ≡ x / y }
+{
+    if y == 1 {
+        return x;
+    }
+    if x < 0x1_0000_0000_0000_0000 && y < 0x1_0000_0000_0000_0000 {
+        return u128::from(x as u64 / y as u64);
+    }
+    x / y
 }
 
 /// The greatest common divisor, by Euclid's algorithm.
@@ -67,7 +140,7 @@ pub fn greatest_divisor(a: u128, b: u128) -> u128
     let mut x = a;
     let mut y = b;
     while y != 0 {
-        let rest = x % y;
+        let rest = remainder(x, y);
         x = y;
         y = rest;
     }
