@@ -154,13 +154,19 @@ divided-IsKept r few fits cst = record {
   cst_fits = quotient-fits (divisor r) r.cst cst;
 }
 
--- the numbers that `Row::make_as` forms
-pub divided_fields : (cs : List ℤ) (c : ℤ) (s : Bool) (f : ℤ) (qs : List ℤ) (q : ℤ) → f ≡ pos (divisor (record { coef = cs; cst = c; strict = false })) →
-    qs ≡ map (λ z. int_div z f) cs → q ≡ int_div c f →
-    ◌≡◌ {A = Row} (record { coef = qs; cst = q; strict = s }) (divided (record { coef = cs; cst = c; strict = s }))
+-- the numbers that are left of a row where they are divided by f
+pub divided_coef : (cs : List ℤ) (c : ℤ) (s : Bool) (f : ℤ) (qs : List ℤ) → f ≡ pos (divisor (record { coef = cs; cst = c; strict = s })) →
+    qs ≡ map (λ z. int_div z f) cs → qs ≡ (divided (record { coef = cs; cst = c; strict = s })).coef
 unfolding divided
-divided_fields cs c s f qs q e es ec =
-    let d : f ≡ pos (divisor (record { coef = cs; cst = c; strict = s })) = e ∙ ap pos (divisor-mark cs c false s) in
-    let coef = es ∙ ap (λ k. map (λ z. int_div z k) cs) d in
-    let cst = ec ∙ ap (int_div c) d in
-    λ i. record { coef = coef i; cst = cst i; strict = s }
+divided_coef cs c s f qs d e = e ∙ ap (λ k. map (λ z. int_div z k) cs) d
+
+pub divided_cst : (cs : List ℤ) (c : ℤ) (s : Bool) (f q : ℤ) → f ≡ pos (divisor (record { coef = cs; cst = c; strict = s })) →
+    q ≡ int_div c f → q ≡ (divided (record { coef = cs; cst = c; strict = s })).cst
+unfolding divided
+divided_cst cs c s f q d e = e ∙ ap (int_div c) d
+
+-- with the mark they are the divided row
+pub divided_fields : (cs : List ℤ) (c : ℤ) (s : Bool) (qs : List ℤ) (q : ℤ) → qs ≡ (divided (record { coef = cs; cst = c; strict = false })).coef →
+    q ≡ (divided (record { coef = cs; cst = c; strict = false })).cst → ◌≡◌ {A = Row} (record { coef = qs; cst = q; strict = s }) (divided (record { coef = cs; cst = c; strict = s }))
+unfolding divided divisor
+divided_fields cs c s qs q coef cst = λ i. record { coef = coef i; cst = cst i; strict = s }

@@ -2,7 +2,7 @@
 
 ghost use Rattle.std.specs.Prelude.{◌≡◌, ◌↔◌, ◌<◌, ◌^◌, ◌/◌, ◌%◌, false, max, All, map, pos, ◌<ℤ◌, ◌*ℤ◌, ◌+ℤ◌, ◌≤◌, length, int_div, unsigned_abs, SomeIff, IsTrue};
 ghost use Rattle.poly_specs.specs.Bits.{FitsBits};
-ghost use Rattle.poly_specs.specs.Elimination.{gcd, divisor};
+ghost use Rattle.poly_specs.specs.Elimination.{gcd, divisor, divided};
 
 use smallvec::SmallVec;
 use std::alloc::Global;
@@ -84,7 +84,7 @@ fn small_sum(p: i128, a: i128, q: i128, b: i128) -> i128
 }
 
 /// The sum of two products, where none of the three passes 128 bits.
-#[inline]
+#[inline(always)]
 pub fn sum_of_two(p: i128, a: i128, q: i128, b: i128) -> Option<i128>
     ensures { SomeIff result (FitsBits (p *ℤ a) × FitsBits (q *ℤ b) × FitsBits (p *ℤ a +ℤ q *ℤ b)) (p *ℤ a +ℤ q *ℤ b) }
 {
@@ -95,6 +95,7 @@ pub fn sum_of_two(p: i128, a: i128, q: i128, b: i128) -> Option<i128>
 }
 
 /// The sum of two products of any numbers.
+#[inline(never)]
 fn large_sum(p: i128, a: i128, q: i128, b: i128) -> Option<i128>
     ensures { SomeIff result (FitsBits (p *ℤ a) × FitsBits (q *ℤ b) × FitsBits (p *ℤ a +ℤ q *ℤ b)) (p *ℤ a +ℤ q *ℤ b) }
 {
@@ -157,7 +158,7 @@ pub fn inline_copy(alloc: Global, numbers: &[i128]) -> SmallVec<i128, 14>
 }
 
 /// A number divided by one that divides it.
-pub fn quotient(number: i128, factor: i128) -> i128
+fn quotient(number: i128, factor: i128) -> i128
     requires positive { pos 0 <ℤ factor }
     ensures { result ≡ int_div number factor }
 {
@@ -165,20 +166,47 @@ pub fn quotient(number: i128, factor: i128) -> i128
 }
 
 /// The numbers, each divided by the factor.
-pub fn quotients(alloc: Global, numbers: &[i128], factor: i128) -> SmallVec<i128, 14>
+#[inline(never)]
+fn quotients(alloc: Global, numbers: &[i128], factor: i128) -> SmallVec<i128, 14>
     requires few { length numbers.now ≤ 14 }
     requires positive { pos 0 <ℤ factor }
     ensures items { result.items ≡ map (λ c. int_div c factor) numbers.now }
     ensures inline { result.capacity ≡ 14 }
 {
-    if factor == 1 {
-        return inline_copy(alloc, numbers);
-    }
     let mut divided = SmallVec::new(alloc);
     for number in numbers {
         divided.push_reserved(quotient(*number, factor));
     }
     divided
+}
+
+/// Divides each of the numbers by the factor.
+fn divide(numbers: &mut SmallVec<i128, 14>, factor: i128)
+    requires few { length numbers.old.items ≤ 14 }
+    requires inline { numbers.old.capacity ≡ 14 }
+    requires positive { pos 0 <ℤ factor }
+    ensures items { numbers.new.items ≡ map (λ c. int_div c factor) numbers.old.items }
+    ensures inline { numbers.new.capacity ≡ 14 }
+{
+    if factor != 1 {
+        *numbers = quotients(*numbers.allocator(), numbers.as_slice(), factor);
+    }
+}
+
+/// Divides the coefficients and the constant of a row by their greatest common divisor, and gives
+/// the constant.
+pub fn reduce(coef: &mut SmallVec<i128, 14>, cst: i128) -> i128
+    requires few { length coef.old.items ≤ 14 }
+    requires inline { coef.old.capacity ≡ 14 }
+    requires coef_fits { All FitsBits coef.old.items }
+    requires cst_fits { FitsBits cst }
+    ensures coef { coef.new.items ≡ (divided (record { coef = coef.old.items; cst = cst; strict = false })).coef }
+    ensures cst { result ≡ (divided (record { coef = coef.old.items; cst = cst; strict = false })).cst }
+    ensures inline { coef.new.capacity ≡ 14 }
+{
+    let factor = row_divisor(coef.as_slice(), cst);
+    divide(coef, factor);
+    quotient(cst, factor)
 }
 
 /// The greatest common divisor of a row's numbers, or 0 where all are 0.
@@ -199,7 +227,7 @@ fn common_divisor(coef: &[i128], cst: i128) -> u128
 }
 
 /// The greatest common divisor of a row's numbers, or 1 where all are 0.
-pub fn row_divisor(coef: &[i128], cst: i128) -> i128
+fn row_divisor(coef: &[i128], cst: i128) -> i128
     requires coef_fits { All FitsBits coef.now }
     requires cst_fits { FitsBits cst }
     ensures value { result ≡ pos (divisor (record { coef = coef.now; cst = cst; strict = false })) }

@@ -6,7 +6,7 @@ ghost use Rattle.poly_specs.specs.Elimination.{divided};
 ghost use Rattle.poly_specs.specs.KeptRows.{IsKeptRow};
 
 use crate::Row;
-use crate::numbers::{inline_copy, quotient, quotients, row_divisor};
+use crate::numbers::{inline_copy, reduce};
 use std::alloc::Global;
 
 impl Row {
@@ -27,10 +27,11 @@ impl Row {
         requires cst_fits { FitsBits cst }
         ensures { result ≡ divided (record { coef = coef.now; cst = cst; strict = strict }) }
     {
-        let factor = row_divisor(coef, cst);
+        let mut divided = inline_copy(alloc, coef);
+        let cst = reduce(&mut divided, cst);
         Row {
-            coef: quotients(alloc, coef, factor),
-            cst: quotient(cst, factor),
+            coef: divided,
+            cst,
             strict,
         }
     }

@@ -55,12 +55,12 @@ pub returns-clause-coef : goal.returns-clause-coef
 returns-clause-coef c =
     let f = p_fits c in
     let g = q_fits c in
-    subst₂ (λ (p q : ℤ). IfSome c.mixed_row.result (λ v. v.0.items ≡ (added (times p c.args.lower.now) (times q c.args.upper.now)).coef)) (p_is c) (q_is c)
+    subst₂ (λ (p q : ℤ). IfSome c.mixed_row.result (λ v. c.mixed_row.new.coef.items ≡ (added (times p c.args.lower.now) (times q c.args.upper.now)).coef)) (p_is c) (q_is c)
     (simp (to_z-of_z, f, g) at c.mixed_row.ensures.coef)
 
 pub returns-clause-cst : goal.returns-clause-cst
 returns-clause-cst c =
     let f = p_fits c in
     let g = q_fits c in
-    subst₂ (λ (p q : ℤ). IfSome c.mixed_row.result (λ v. v.1 ≡ (added (times p c.args.lower.now) (times q c.args.upper.now)).cst)) (p_is c) (q_is c)
+    subst₂ (λ (p q : ℤ). IfSome c.mixed_row.result (λ v. v ≡ (added (times p c.args.lower.now) (times q c.args.upper.now)).cst)) (p_is c) (q_is c)
     (simp (to_z-of_z, f, g) at c.mixed_row.ensures.cst)
