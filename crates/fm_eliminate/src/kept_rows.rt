@@ -65,7 +65,7 @@ impl KeptRows {
     }
 
     /// Where a row stands that has the coefficients of this one.
-    fn find(&self, row: &Row, digest: usize) -> Option<usize>
+    fn find(&self, row: &Row, digest: u32) -> Option<usize>
         ensures { IfSome result (λ place. IsAlikeAt self.now place row.now) }
     {
         for steps in 0..self.places.len() {
@@ -79,7 +79,7 @@ impl KeptRows {
     }
 
     /// Adds a row that has coefficients of its own.
-    fn push(&mut self, row: Row, digest: usize) -> Result<(), AllocError>
+    fn push(&mut self, row: Row, digest: u32) -> Result<(), AllocError>
         ensures ok { OnOk result (self.new ≡ self.old ++ row ∷ []) }
         ensures err { OnErr result (self.new ≡ self.old) }
     {

@@ -7,8 +7,8 @@ use std::alloc::{AllocError, Global};
 /// A digest, and one more than the place of the row that has it. A free entry has 0 there.
 #[derive(Clone, Copy, Debug)]
 pub struct Entry {
-    digest: usize,
-    next: usize,
+    digest: u32,
+    next: u32,
 }
 
 const FREE: Entry = Entry { digest: 0, next: 0 };
@@ -24,11 +24,12 @@ pub struct Places {
 impl Entry {
     /// The place of the row.
     pub fn place(self) -> Option<usize> {
-        self.next.checked_sub(1)
+        let place = self.next.checked_sub(1)?;
+        Some(place as usize)
     }
 
     /// Whether the row has this digest.
-    pub fn has(self, digest: usize) -> bool {
+    pub fn has(self, digest: u32) -> bool {
         self.digest == digest
     }
 }
@@ -48,7 +49,7 @@ impl Places {
     }
 
     /// The entry that stands so many steps behind that of the digest.
-    pub fn entry(&self, digest: usize, steps: usize) -> Entry {
+    pub fn entry(&self, digest: u32, steps: usize) -> Entry {
         let at = index(digest, steps, self.entries.len());
         *self.entries.get(at).unwrap_or(&FREE)
     }
@@ -69,17 +70,18 @@ impl Places {
         Ok(())
     }
 
-    /// Adds the place of a row, for which there is room.
-    pub fn add(&mut self, digest: usize, place: usize) {
-        let next = place.wrapping_add(1);
-        enter(self.entries.as_mut_slice(), Entry { digest, next });
-        self.used = self.used.wrapping_add(1);
+    /// Adds the place of a row, for which there is room. A place past 32 bits is left out.
+    pub fn add(&mut self, digest: u32, place: usize) {
+        if let Ok(next) = u32::try_from(place.wrapping_add(1)) {
+            enter(self.entries.as_mut_slice(), Entry { digest, next });
+            self.used = self.used.wrapping_add(1);
+        }
     }
 }
 
 /// The sizes of tables are powers of 2.
-fn index(digest: usize, steps: usize, size: usize) -> usize {
-    digest.wrapping_add(steps) & size.wrapping_sub(1)
+fn index(digest: u32, steps: usize, size: usize) -> usize {
+    (digest as usize).wrapping_add(steps) & size.wrapping_sub(1)
 }
 
 /// Puts an entry into the first free place.
@@ -95,11 +97,11 @@ fn enter(entries: &mut [Entry], entry: Entry) {
 }
 
 /// A digest of the numbers: equal numbers have the same. It is made of their last 64 bits.
-pub fn digest(numbers: &[i128]) -> usize {
-    let mut sum = 0usize;
+pub fn digest(numbers: &[i128]) -> u32 {
+    let mut sum = 0u64;
     for number in numbers {
-        let low = (number.cast_unsigned() & 0xffff_ffff_ffff_ffff) as usize;
-        sum = (sum.rotate_left(5) ^ low).wrapping_mul(0x517c_c1b7_2722_0a95);
+        let low = (number.cast_unsigned() & 0xffff_ffff_ffff_ffff) as u64;
+        sum = sum.wrapping_mul(0x517c_c1b7_2722_0a95).wrapping_add(low);
     }
-    sum ^ (sum >> 32)
+    ((sum ^ (sum >> 32)) & 0xffff_ffff) as u32
 }

@@ -59,6 +59,15 @@ fn is_small(number: i128) -> bool
     number > -0x4000_0000_0000_0000 && number < 0x4000_0000_0000_0000
 }
 
+/// A small number fits into 64 bits.
+#[inline]
+fn narrow(number: i128) -> i64
+    requires { unsigned_abs number < 2 ^ 62 }
+    ensures { result ≡ number }
+{
+    number as i64
+}
+
 /// The product of two small numbers.
 #[inline]
 fn small_product(a: i128, b: i128) -> i128
@@ -67,7 +76,7 @@ fn small_product(a: i128, b: i128) -> i128
     ensures value { result ≡ a *ℤ b }
     ensures size { unsigned_abs (a *ℤ b) < 2 ^ 124 }
 {
-    a * b
+    i128::from(narrow(a)) * i128::from(narrow(b))
 }
 
 /// The sum of two products of small numbers.
@@ -140,10 +149,13 @@ pub fn greatest_divisor(a: u128, b: u128) -> u128
 {
     let mut x = a;
     let mut y = b;
-    while y != 0 {
+    while y > 1 {
         let rest = remainder(x, y);
         x = y;
         y = rest;
+    }
+    if y == 1 {
+        return 1;
     }
     x
 }
@@ -162,7 +174,17 @@ fn quotient(number: i128, factor: i128) -> i128
     requires positive { pos 0 <ℤ factor }
     ensures { result ≡ int_div number factor }
 {
+    if is_small(number) && is_small(factor) {
+        return small_quotient(narrow(number), narrow(factor));
+    }
     number / factor
+}
+
+fn small_quotient(number: i64, factor: i64) -> i128
+    requires positive { pos 0 <ℤ factor }
+    ensures { result ≡ int_div number factor }
+{
+    i128::from(number / factor)
 }
 
 /// The numbers, each divided by the factor.
