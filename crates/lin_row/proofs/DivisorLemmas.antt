@@ -129,15 +129,14 @@ times-one : (r : Row) → times (pos 1) r ≡ r
 times-one r = let e = all_once r.coef in let f : pos 1 *ℤ r.cst ≡ r.cst = omega (arith, ints) in λ i. record { coef = e i; cst = f i; strict = r.strict }
 
 -- nothing changes where the divisor is 1
+pub quotient-by_one : (f z : ℤ) → f ≡ pos 1 → int_div z f ≡ z
+quotient-by_one f z e =
+    let same : pos 1 *ℤ int_div z (pos 1) ≡ z = exact 1 z (one-dvd (unsigned_abs z)) in
+    ap (int_div z) e ∙ omega (arith, ints, same)
+
 pub quotients-by_one : (f : ℤ) (zs : List ℤ) → f ≡ pos 1 → map (λ z. int_div z f) zs ≡ zs
-quotients-by_one f zs e = ap (λ g. map (λ z. int_div z g) zs) e ∙ go zs
-  where
-    go : (zs : List ℤ) → map (λ z. int_div z (pos 1)) zs ≡ zs
-    go [] = refl
-    go (z ∷ zs) =
-        let same : pos 1 *ℤ int_div z (pos 1) ≡ z = exact 1 z (one-dvd (unsigned_abs z)) in
-        let here : int_div z (pos 1) ≡ z = omega (arith, ints, same) in
-        let rest = go zs in cc
+quotients-by_one f [] e = refl
+quotients-by_one f (z ∷ zs) e = let here = quotient-by_one f z e in let rest = quotients-by_one f zs e in cc
 
 -- a row is divided exactly where its divisor is 1
 pub divided-from_one : (r : Row) → divisor r ≡ 1 → divided r ≡ r

@@ -59,15 +59,6 @@ fn is_small(number: i128) -> bool
     number > -0x4000_0000_0000_0000 && number < 0x4000_0000_0000_0000
 }
 
-/// A small number fits into 64 bits.
-#[inline]
-fn narrow(number: i128) -> i64
-    requires { unsigned_abs number < 2 ^ 62 }
-    ensures { result ≡ number }
-{
-    number as i64
-}
-
 /// The product of two small numbers.
 #[inline]
 fn small_product(a: i128, b: i128) -> i128
@@ -76,7 +67,7 @@ fn small_product(a: i128, b: i128) -> i128
     ensures value { result ≡ a *ℤ b }
     ensures size { unsigned_abs (a *ℤ b) < 2 ^ 124 }
 {
-    i128::from(narrow(a)) * i128::from(narrow(b))
+    a * b
 }
 
 /// The sum of two products of small numbers.
@@ -169,11 +160,23 @@ pub fn inline_copy(alloc: Global, numbers: &[i128]) -> SmallVec<i128, 14>
     SmallVec::from_slice(alloc, numbers).unwrap()
 }
 
+/// A small number fits into 64 bits.
+#[inline]
+fn narrow(number: i128) -> i64
+    requires { unsigned_abs number < 2 ^ 62 }
+    ensures { result ≡ number }
+{
+    number as i64
+}
+
 /// A number divided by one that divides it.
 fn quotient(number: i128, factor: i128) -> i128
     requires positive { pos 0 <ℤ factor }
     ensures { result ≡ int_div number factor }
 {
+    if factor == 1 {
+        return number;
+    }
     if is_small(number) && is_small(factor) {
         return small_quotient(narrow(number), narrow(factor));
     }

@@ -1,4 +1,4 @@
-use Rattle.std.proofs.Common.{◌≡◌, rules, ◌<◌, ◌*◌, ◌^◌, ◌*ℤ◌, unsigned_abs, arith, to_z, of_z, ap₂, ◌∙◌}
+use Rattle.std.proofs.Common.{◌<◌, ◌*◌, ◌^◌, ◌*ℤ◌, unsigned_abs, arith, to_z, of_z, ap₂, ◌∙◌}
 use Rattle.std.specs.Int.{w128}
 use Rattle.std.proofs.lemmas.Int.{to_z-of_z, unsigned_abs-mul, fits_signed_from_abs}
 use Rattle.std.proofs.lemmas.Nat.{mul-lt}
@@ -14,6 +14,4 @@ pub returns-clause-value : goal.returns-clause-value
 returns-clause-value c =
     let few : unsigned_abs (c.args.a *ℤ c.args.b) < 2 ^ 124 = returns-clause-size c in
     let fits = fits_signed_from_abs w128 (c.args.a *ℤ c.args.b) (omega (arith, few)) in
-    let left : to_z w128 (of_z w128 c.from.result) ≡ c.args.a = search rules in
-    let right : to_z w128 (of_z w128 c.from-2.result) ≡ c.args.b = search rules in
-    ap₂ (λ x y. to_z w128 (of_z w128 (x *ℤ y))) left right ∙ to_z-of_z w128 (c.args.a *ℤ c.args.b) fits
+    ap₂ (λ x y. to_z w128 (of_z w128 (x *ℤ y))) (to_z-of_z w128 c.args.a c.ranges.a) (to_z-of_z w128 c.args.b c.ranges.b) ∙ to_z-of_z w128 (c.args.a *ℤ c.args.b) fits
