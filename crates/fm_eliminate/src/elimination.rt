@@ -57,6 +57,20 @@ fn add_replaced(
     Ok(())
 }
 
+/// How many rows to make room for: as many as may be left, where they are not too many.
+fn room(rows: &[Row], x: usize) -> usize {
+    let mut lowers = 0usize;
+    let mut uppers = 0usize;
+    for row in rows {
+        match row.coef().get(x) {
+            Some(coef) if *coef < 0 => lowers = lowers.wrapping_add(1),
+            Some(coef) if *coef > 0 => uppers = uppers.wrapping_add(1),
+            _ => {}
+        }
+    }
+    rows.len().saturating_add(lowers.saturating_mul(uppers)).min(512)
+}
+
 /// Adds the rows without column `x`.
 fn add_free(kept: &mut KeptRows, rows: &[Row], x: usize) -> Result<(), AllocError>
     requires within { All (λ r. x < length r.coef) rows.now }
@@ -141,7 +155,7 @@ impl System {
         ensures few { IfOk result (λ v. length v.items + 2 ≤ length self.now.rows) }
         ensures passes { result ≡ Err RowFault.Passes → SomePasses (formed x self.now.rows) }
     {
-        let mut kept = KeptRows::new(alloc);
+        let mut kept = KeptRows::with_capacity(alloc, self.rows().len())?;
         add_replaced(&mut kept, self.rows(), lower, upper, x)?;
         Ok(kept.into_rows())
     }
@@ -151,7 +165,7 @@ impl System {
         ensures ok { IfOk result (λ v. IsProjection self.now.width x self.now.rows v.items) }
         ensures passes { result ≡ Err RowFault.Passes → SomePasses (formed x self.now.rows) }
     {
-        let mut kept = KeptRows::new(alloc);
+        let mut kept = KeptRows::with_capacity(alloc, room(self.rows(), x))?;
         add_free(&mut kept, self.rows(), x)?;
         add_pairs(&mut kept, self.rows(), self.width(), x)?;
         Ok(kept.into_rows())

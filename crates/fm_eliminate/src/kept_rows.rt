@@ -1,6 +1,6 @@
 //! Rows that are kept as they are formed, without those that say nothing more.
 
-ghost use Rattle.std.specs.Prelude.{◌≡◌, ◌↔◌, ◌⊎◌, ◌+◌, ◌<◌, ◌≤◌, ◌++◌, ◌∷◌, [], IsTrue, IfSome, OnOk, OnErr, length, if◌then◌else◌, ◌||◌, ◌&&◌, not, int_lt, pos, slice_set};
+ghost use Rattle.std.specs.Prelude.{◌≡◌, ◌↔◌, ◌⊎◌, ◌+◌, ◌<◌, ◌≤◌, ◌++◌, ◌∷◌, [], IsTrue, IfSome, IfOk, OnOk, OnErr, length, if◌then◌else◌, ◌||◌, ◌&&◌, not, int_lt, pos, slice_set};
 ghost use Rattle.std.specs.List.{list_all};
 ghost use Rattle.fm_eliminate.specs.Leaving.{IsLeft, IsAlikeAt, is_zero, always_holds};
 
@@ -26,21 +26,24 @@ impl Model for KeptRows {
 }
 
 impl KeptRows {
-    /// No rows.
-    pub fn new(alloc: Global) -> KeptRows
-        ensures { result ≡ [] }
+    /// No rows, and room for so many.
+    pub fn with_capacity(alloc: Global, rows: usize) -> Result<KeptRows, AllocError>
+        ensures { IfOk result (λ k. k ≡ []) }
     {
-        KeptRows {
-            rows: Vec::new(alloc),
+        let rows = Vec::with_capacity(alloc, rows)?;
+        Ok(KeptRows {
+            rows,
             places: Places::new(alloc),
-        }
+        })
     }
 
-    /// The rows, in their order.
+    /// The rows, in their order. The room that is left is given back.
     pub fn into_rows(self) -> Vec<Row>
         ensures { result.items ≡ self }
     {
-        self.rows
+        let mut rows = self.rows;
+        rows.shrink_to_fit();
+        rows
     }
 
     /// Adds a row. It is left out where it always holds or a kept row dominates it; it takes the
