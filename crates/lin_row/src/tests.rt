@@ -44,6 +44,17 @@ fn makes(rt: HostRuntime) {
         )
     );
     assert!(rt; !Row::same(&divided, &row(&rt, rt.alloc(), &[4, -6, 0], 10, true)));
+    // Numbers of more than 64 bits beside smaller ones, then with a common divisor of more and of less.
+    for (coef, other) in [(1 << 70, 3), (7, 1 << 90)] {
+        let large = row(&rt, rt.alloc(), &[coef, 0], -other, false);
+        assert_eq!(rt; large.coef(), [coef, 0].as_slice());
+    }
+    let large = row(&rt, rt.alloc(), &[3 << 70, -(5 << 70)], 7 << 80, false);
+    assert_eq!(rt; large.coef(), [3, -5].as_slice());
+    assert_eq!(rt; large.cst(), 7 << 10);
+    let large = row(&rt, rt.alloc(), &[6 << 80, -10], 14, false);
+    assert_eq!(rt; large.coef(), [3 << 80, -5].as_slice());
+    assert_eq!(rt; large.cst(), 7);
     // All are 0: there is nothing to divide by.
     assert_eq!(rt;
         row(&rt, rt.alloc(), &[0, 0], 0, true).coef(),
@@ -71,6 +82,23 @@ fn combines(rt: HostRuntime) {
         combined(&rt, &lower, &upper, 0),
         Ok(row(&rt, rt.alloc(), &[0], -1, false))
     );
+    // Products and sums round 64 bits: 2 * a + 3 * b, where the divisor is 1.
+    for (a, b) in [
+        (1 << 62, 1),
+        ((1 << 62) - 1, (1 << 62) - 2),
+        (-(1 << 62), 1 << 61),
+        (1 << 63, -(1 << 64) - 1),
+        (1 << 100, 1 << 20),
+    ] {
+        let lower = row(&rt, rt.alloc(), &[-3, 1], a, false);
+        let upper = row(&rt, rt.alloc(), &[2, 1], b, false);
+        let sum = 2i128.wrapping_mul(a).wrapping_add(3i128.wrapping_mul(b));
+        assert!(rt; sum != i128::MIN);
+        assert_eq!(rt;
+            combined(&rt, &lower, &upper, 0),
+            Ok(row(&rt, rt.alloc(), &[0, 5], sum, false))
+        );
+    }
     // The product 2 * MAX passes.
     let lower = row(&rt, rt.alloc(), &[-1, MAX], 0, false);
     let upper = row(&rt, rt.alloc(), &[2, 0], 1, false);
