@@ -68,7 +68,9 @@ fn room(rows: &[Row], x: usize) -> usize {
             _ => {}
         }
     }
-    rows.len().saturating_add(lowers.saturating_mul(uppers)).min(512)
+    rows.len()
+        .saturating_add(lowers.saturating_mul(uppers))
+        .min(512)
 }
 
 /// Adds the rows without column `x`.

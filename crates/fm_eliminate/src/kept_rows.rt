@@ -9,7 +9,7 @@ use lin_row::Row;
 use std::alloc::{AllocError, Global};
 use std::marker::Model;
 
-/// Rows of which no two have the same coefficients.
+/// Rows that are kept, and where each stands: of those with the same coefficients, one.
 #[derive(Debug, Drop)]
 pub struct KeptRows {
     rows: Vec<Row>,

@@ -1,8 +1,9 @@
 //! Worked examples.
 
-ghost use Rattle.std.specs.Prelude.{◌↔◌, All, IsTrue};
+ghost use Rattle.std.specs.Prelude.{◌≡◌, ◌↔◌, ◌≤◌, All, IsTrue, length, drop, pos};
 ghost use Rattle.poly_specs.specs.Bits.{FitsBits};
 
+use crate::kept_rows::KeptRows;
 use crate::{RowFault, System};
 use lin_row::{Point, Row};
 use std::alloc::{AllocError, Global};
@@ -220,6 +221,80 @@ fn joins_and_moves(rt: HostRuntime) -> Result<(), Fail> {
         turned,
         system(&rt, alloc, &[(&[2, 1], 3, false), (&[5, 4], 6, true)])?
     );
+    Ok(())
+}
+
+fn all_zero(numbers: &[i128]) -> bool
+    ensures { IsTrue result ↔ All (λ c. c ≡ pos 0) numbers.now }
+{
+    numbers.iter().all(|number| *number == 0)
+}
+
+/// Whether no row has a coefficient in the columns from `width` on.
+fn are_shorter(rows: &[Row], width: usize) -> bool
+    requires { All (λ r. width ≤ length r.coef) rows.now }
+    ensures { IsTrue result ↔ All (λ r. All (λ c. c ≡ pos 0) (drop width r.coef)) rows.now }
+{
+    rows.iter().all(|row| all_zero(&row.coef()[width..]))
+}
+
+#[test]
+fn cuts(rt: HostRuntime) -> Result<(), Fail> {
+    let alloc = rt.alloc();
+    let given: [Given<'_>; 2] = [(&[1, 2, 0], 3, false), (&[-4, 5, 0], 6, true)];
+    let whole = System::make(3, rows(&rt, alloc, &given)?).expect(&rt, "rows of three columns");
+    assert!(rt; whole.width() == 3);
+    assert!(rt; are_shorter(whole.rows(), 2));
+    assert_eq!(rt;
+        whole.cut(alloc, 2)?,
+        system(&rt, alloc, &[(&[1, 2], 3, false), (&[-4, 5], 6, true)])?
+    );
+    Ok(())
+}
+
+/// The rows `k * x + y + cst <= 0`, for each k below 100.
+fn many(rt: &impl Abort, alloc: Global, cst: i128, strict: bool) -> Result<Vec<Row>, AllocError> {
+    let mut made = Vec::new(alloc);
+    for k in 0..100u8 {
+        made.push(row(rt, alloc, &[i128::from(k), 1], cst, strict))?;
+    }
+    Ok(made)
+}
+
+#[test]
+fn keeps_the_tightest(rt: HostRuntime) -> Result<(), Fail> {
+    let alloc = rt.alloc();
+    let mut kept = KeptRows::with_capacity(alloc, 0)?;
+    // Lower bounds give way to higher ones, and each stands in the place of the first of its sum.
+    for (cst, strict) in [
+        (5, false),
+        (4, false),
+        (4, true),
+        (6, false),
+        (6, true),
+        (6, false),
+    ] {
+        for row in many(&rt, alloc, cst, strict)? {
+            kept.add_row(row)?;
+        }
+    }
+    assert_eq!(rt; kept.into_rows(), many(&rt, alloc, 6, true)?);
+    Ok(())
+}
+
+#[test]
+fn tells_rows_of_one_digest_apart(rt: HostRuntime) -> Result<(), Fail> {
+    let alloc = rt.alloc();
+    let given: [Given<'_>; 3] = [
+        (&[1, 7], 0, false),
+        (&[1 + (1 << 64), 7], 0, false),
+        (&[1, 7 + (1 << 100)], 0, false),
+    ];
+    let mut kept = KeptRows::with_capacity(alloc, 0)?;
+    for row in rows(&rt, alloc, &given)? {
+        kept.add_row(row)?;
+    }
+    assert_eq!(rt; kept.into_rows(), rows(&rt, alloc, &given)?);
     Ok(())
 }
 
