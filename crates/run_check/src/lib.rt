@@ -15,3 +15,6 @@ mod rows;
 
 pub use check::{RunPasses, Verified, check_run};
 pub use run_record::{GapRun, Leg, Move, Run};
+
+#[cfg(test)]
+mod tests;
