@@ -5,6 +5,7 @@
 #![tactic(auto)]
 
 ghost use Rattle.std.specs.Prelude.{◌≡◌};
+ghost use Rattle.std.specs.declared.alloc.Global.{Global as Heap};
 
 use std::alloc::Global;
 use std::marker::Model;
@@ -46,8 +47,10 @@ impl Leg {
         self.at_end.as_slice()
     }
 
-    /// The allocator of its values.
-    pub fn allocator(&self) -> Global {
+    /// The allocator of its values. There is but one allocator.
+    pub fn allocator(&self) -> Global
+        ensures { (other : Heap) → result ≡ other }
+    {
         *self.at_end.allocator()
     }
 }
