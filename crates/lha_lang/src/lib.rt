@@ -1,22 +1,8 @@
-//! The trees of models and their canonical text; and of their reading the first parts: lines, tokens, and a line of boxes.
+//! The trees of models, and their canonical text.
 #![tactic(auto)]
 
-mod boxes;
-mod faults;
-mod lines;
-mod pages;
-mod print;
-#[cfg(test)]
-mod print_tests;
-mod sequences;
-mod tokens;
-mod trees;
-
-pub use print::print_models;
-pub use trees::{
+pub use lang_print::print_models;
+pub use lang_trees::{
     ActParts, ActTree, BoundTree, BoundsTree, BoxTree, BoxesTree, Expr, LocTree, RowTree, RowsTree,
     Sign, Term, TransTree, Tree, Which,
 };
-
-#[cfg(test)]
-mod tests;

@@ -1,0 +1,4 @@
+pub mod BoundMachine
+pub mod BoxMachine
+pub mod NameMachine
+pub mod Views

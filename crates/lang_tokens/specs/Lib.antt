@@ -1,0 +1,5 @@
+pub mod Gives
+pub mod Kinds
+pub mod LineFaults
+pub mod Machines
+pub mod Places

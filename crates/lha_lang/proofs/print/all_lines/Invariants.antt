@@ -1,7 +1,0 @@
-use Rattle.std.proofs.Common.{◌≡◌, take}
-use Rattle.std.specs.List.{flat_map}
-use Rattle.lha_lang.specs.Pages.{with_lines}
-use Rattle.lha_lang.proofs.print.all_lines.Given as goal
-
-abbrev pub invariant-loop-item : goal.invariant-loop-item
-invariant-loop-item g l = l.page ≡ with_lines l.fn.page (flat_map g.T.PrintLines.lines (take l.item-index l.items))

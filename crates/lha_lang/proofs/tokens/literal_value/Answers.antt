@@ -1,6 +1,0 @@
-use Rattle.std.proofs.Common.{sym}
-use Rattle.lha_lang.proofs.AsciiText.{form_unless_text}
-use Rattle.lha_lang.proofs.tokens.literal_value.Goals as goal
-
-pub returns-in-Err : goal.returns-in-Err
-returns-in-Err c = form_unless_text c.args.text.now c.in-Err.ensures.cases.0

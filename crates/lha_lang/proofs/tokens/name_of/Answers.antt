@@ -1,5 +1,0 @@
-use Rattle.lha_lang.proofs.AsciiText.{no_name_unless_text}
-use Rattle.lha_lang.proofs.tokens.name_of.Goals as goal
-
-pub returns-in-Err : goal.returns-in-Err
-returns-in-Err c = no_name_unless_text c.args.text.now c.in-Err.ensures.cases.0
