@@ -12,12 +12,12 @@ ghost use Rattle.lang_specs.specs.Canonical.{joined};
 ghost use Rattle.lang_print.specs.Pages.{with_token, with_tokens, with_line, with_lines, at_line_start};
 
 use crate::pages::Page;
+use frac128::Frac;
+use lang_specs::Kind;
 use lang_trees::{
     ActParts, ActTree, BoundTree, BoundsTree, BoxTree, Expr, LocTree, RowTree, RowsTree, Sign,
     Term, TransTree, Tree,
 };
-use frac128::Frac;
-use lang_specs::Kind;
 use lha_model::Name;
 use std::alloc::{AllocError, Global};
 
