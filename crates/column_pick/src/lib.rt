@@ -1,0 +1,5 @@
+//! Extends a point column by column, from the levels of a system: each further number is the pick
+//! of the values that the system leaves for its column.
+#![tactic(auto)]
+
+mod parts;
