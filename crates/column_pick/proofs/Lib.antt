@@ -1,1 +1,2 @@
 pub mod PartedLemmas
+pub mod RangeLemmas

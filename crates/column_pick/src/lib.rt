@@ -3,3 +3,4 @@
 #![tactic(auto)]
 
 mod parts;
+mod ranges;

@@ -9,7 +9,7 @@ ghost use Rattle.column_pick.specs.Ranges.{parted, least_middle};
 use frac128::Frac;
 
 /// The fraction is kept, which its readers say: there is nothing to run.
-fn see_kept(x: &Frac)
+pub fn see_kept(x: &Frac)
     ensures { IsKept x.now }
 {
     x.den();
