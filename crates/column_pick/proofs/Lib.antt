@@ -1,2 +1,3 @@
 pub mod PartedLemmas
 pub mod RangeLemmas
+pub mod RowLemmas

@@ -1,16 +1,17 @@
 //! The range of numbers that rows leave for a column.
 
-ghost use Rattle.std.specs.Prelude.{◌≡◌, ◌<◌, ◌||◌, ◌++◌, ◌∷◌, [], List, All, Some, IfSome, IfNone, length, pos, negsuc, ◌<ℤ◌, neg_ℤ};
+ghost use Rattle.std.specs.Prelude.{◌≡◌, ◌<◌, ◌||◌, ◌++◌, ◌∷◌, [], List, Some, None, IfSome, length, pos, ◌<ℤ◌, neg_ℤ};
 ghost use Rattle.poly_specs.specs.Arithmetic.{lowest};
 ghost use Rattle.poly_specs.specs.Bits.{FitsBits, SomePasses};
 ghost use Rattle.poly_specs.specs.Evaluation.{eval_numbers};
+ghost use Rattle.poly_specs.specs.KeptRows.{IsKeptPoint};
 ghost use Rattle.poly_specs.specs.Lists.{In};
-ghost use Rattle.poly_specs.specs.Rows.{Row as RowValue, over, coef_at, row_value};
+ghost use Rattle.poly_specs.specs.Rows.{Row as RowValue, AllWide, row_value, coef_at};
 ghost use Rattle.column_pick.specs.Ranges.{IsCapOf, IsLesser, IsNarrowed, IsRangeOf};
 
 use crate::parts::see_kept;
 use frac128::Frac;
-use lin_row::Row;
+use lin_row::{Point, Row};
 use std::cmp::Ordering;
 
 /// The numbers up to an end, which is not one of them where it is open. What the end is divided
@@ -114,4 +115,60 @@ fn with_line(range: &Range, lead: i128, cst: i128, strict: bool) -> Range
         up: range.up,
         down: range.down,
     }
+}
+
+fn coefficient(row: &Row, x: usize) -> i128
+    requires { x < length row.now.coef }
+    ensures value { result ≡ coef_at x row.now }
+    ensures fits { FitsBits result }
+{
+    row.coef()[x]
+}
+
+/// The row's sum at the point, times its denominator. `None` where evaluating it passes 128 bits.
+fn value_at(row: &Row, point: &Point) -> Option<i128>
+    requires { length point.now.num ≡ length row.now.coef }
+    ensures some { IfSome result (λ v. (v ≡ row_value row.now point.now) × FitsBits v) }
+    ensures none { result ≡ None → SomePasses (eval_numbers row.now point.now.num point.now.den) }
+{
+    row.eval(point.num(), point.den())
+}
+
+/// The numbers of the range that a row leaves for column `x` of the point, in which it has 0.
+/// `None` where evaluating the row passes 128 bits.
+fn with_row(range: &Range, row: &Row, point: &Point, x: usize) -> Option<Range>
+    requires sized { length point.now.num ≡ length row.now.coef }
+    requires within { x < length row.now.coef }
+    ensures some { IfSome result (λ r. (rows : List RowValue) → IsRangeOf x point.now rows range.now → IsRangeOf x point.now (rows ++ row.now ∷ []) r) }
+    ensures none { result ≡ None → SomePasses (eval_numbers row.now point.now.num point.now.den) }
+{
+    let value = value_at(row, point)?;
+    let lead = coefficient(row, x);
+    see_kept_point(point);
+    Some(with_line(range, lead, value, row.strict()))
+}
+
+/// The point is kept, which its readers say: there is nothing to run.
+pub fn see_kept_point(point: &Point)
+    ensures { IsKeptPoint point.now }
+{
+    point.den();
+}
+
+/// The range that rows leave for column `x` of the point, in which it has 0. `None` where
+/// evaluating a row passes 128 bits.
+pub fn range_at(rows: &[Row], point: &Point, x: usize) -> Option<Range>
+    requires wide { AllWide (length point.now.num) rows.now }
+    requires within { x < length point.now.num }
+    ensures some { IfSome result (λ r. IsRangeOf x point.now rows.now r) }
+    ensures none { result ≡ None → (r : RowValue) × In r rows.now × SomePasses (eval_numbers r point.now.num point.now.den) }
+{
+    let mut range = Range {
+        up: None,
+        down: None,
+    };
+    for row in rows {
+        range = with_row(&range, row, point, x)?;
+    }
+    Some(range)
 }
