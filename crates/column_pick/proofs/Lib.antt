@@ -1,3 +1,4 @@
 pub mod PartedLemmas
 pub mod RangeLemmas
 pub mod RowLemmas
+pub mod WholeLemmas

@@ -1,6 +1,6 @@
 -- The numbers between two ends, which stand over one denominator, and the ends that rows set.
-use Rattle.std.specs.Prelude.{◌≢◌, ◌↔◌, ⊤, ℕ, Bool, true, false, List, All, Option, Some, None, ℤ, pos, ◌+ℤ◌, ◌*ℤ◌, ◌<ℤ◌}
-use Rattle.poly_specs.specs.Fractions.{Fraction, IsFraction, AtMost, Below, opposite}
+use Rattle.std.specs.Prelude.{◌≢◌, ◌↔◌, ⊤, ℕ, Bool, true, false, List, All, Option, Some, None, ℤ, pos, ◌+ℤ◌, ◌*ℤ◌, ◌≤ℤ◌, ◌<ℤ◌}
+use Rattle.poly_specs.specs.Fractions.{Fraction, IsFraction, AtMost, Below, opposite, zero_fraction}
 use Rattle.poly_specs.specs.Arithmetic.{lowest, least_sum}
 use Rattle.poly_specs.specs.Pickings.{half}
 use Rattle.poly_specs.specs.Rows.{Point, Row, Allows, row_value, coef_at}
@@ -63,3 +63,29 @@ IsWithin x q r v = coef_at x r ≢ pos 0 → MeetsRow x q r v
 -- the range has the numbers that are within what these rows set
 abbrev pub IsRangeOf : ℕ → Point → List Row → Range → Type 0
 IsRangeOf x q rows range = (v : Fraction) → IsFraction v → IsBetween q.den range v ↔ All (λ r. IsWithin x q r v) rows
+
+-- ---- whole numbers
+
+-- the whole number n
+abbrev pub whole : ℤ → Fraction
+whole n = record { num = n; den = pos 1 }
+
+-- q is the whole part of number / by, which is at least 0
+pub record IsFloor (number by q : ℤ) : Type 0 where
+  pub least : pos 0 ≤ℤ q
+  pub reached : (q *ℤ by) ≤ℤ number
+  pub next : number <ℤ ((q +ℤ pos 1) *ℤ by)
+
+-- n is the least whole number whose opposite is within the cap, and it is above 0
+pub record IsLeastWhole (parts : ℤ) (near : Cap) (n : ℤ) : Type 0 where
+  pub above : pos 0 <ℤ n
+  pub inside : IsUnder parts (Some near) (opposite (whole n))
+  pub least : (m : ℤ) → IsUnder parts (Some near) (opposite (whole m)) → n ≤ℤ m
+
+-- no whole number is within the one cap while its opposite is within the other
+abbrev pub HasNoWhole : ℤ → Cap → Cap → Type 0
+HasNoWhole parts near far = (m : ℤ) → IsUnder parts (Some near) (opposite (whole m)) → IsUnder parts (Some far) (whole m) → ⊥
+
+-- 0 is not within the cap, over whatever its end stands
+abbrev pub IsShort : Cap → Type 0
+IsShort cap = IsUpTo cap.is_open cap.end zero_fraction → ⊥

@@ -4,3 +4,4 @@
 
 mod parts;
 mod ranges;
+mod wholes;

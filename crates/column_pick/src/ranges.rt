@@ -35,7 +35,7 @@ fn either(a: bool, b: bool) -> bool
     a || b
 }
 
-fn negated(number: i128) -> i128
+pub fn negated(number: i128) -> i128
     requires { FitsBits number }
     ensures value { result ≡ neg_ℤ number }
     ensures fits { FitsBits result }
