@@ -2,3 +2,4 @@ pub mod PartedLemmas
 pub mod RangeLemmas
 pub mod RowLemmas
 pub mod WholeLemmas
+pub mod GapLemmas
