@@ -92,7 +92,7 @@ up_to_not true v e h = not_below v h
 up_to_not false v e h = absurd (let f : ⊥ = cc in f)
 
 -- what is at most z, which is within the end, is within it too
-up_to_lower : (o : Bool) (a l z : Fraction) → IsFraction a → IsFraction l → IsFraction z → AtMost l z → IsUpTo o a z → IsUpTo o a l
+pub up_to_lower : (o : Bool) (a l z : Fraction) → IsFraction a → IsFraction l → IsFraction z → AtMost l z → IsUpTo o a z → IsUpTo o a l
 up_to_lower true a l z ha hl hz le h = AtMost-Below l z a hl hz ha le h
 up_to_lower false a l z ha hl hz le h = AtMost-trans l z a hl hz ha le h
 

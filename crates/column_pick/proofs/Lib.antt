@@ -3,3 +3,4 @@ pub mod RangeLemmas
 pub mod RowLemmas
 pub mod WholeLemmas
 pub mod GapLemmas
+pub mod BetweenLemmas

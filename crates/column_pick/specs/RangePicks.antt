@@ -1,11 +1,11 @@
 -- The pick of a set, and of the numbers between two ends.
-use Rattle.std.specs.Prelude.{◌≡◌, ◌⊎◌, Bool, true, false, IsTrue, IsFalse, MatchBool, MatchOption, Option, ℤ}
+use Rattle.std.specs.Prelude.{◌≡◌, ◌⊎◌, Bool, true, false, IsTrue, IsFalse, MatchBool, MatchOption, Option, ℤ, pos, ◌<ℤ◌}
 use Rattle.poly_specs.specs.Bits.{SomePasses}
-use Rattle.poly_specs.specs.Fractions.{Fraction, AtMost, Below, opposite}
+use Rattle.poly_specs.specs.Fractions.{Fraction, AtMost, Below, opposite, zero_fraction}
 use Rattle.poly_specs.specs.LowestTerms.{IsLowest}
 use Rattle.poly_specs.specs.Pickings.{lowest_numbers, middle_numbers}
 use Rattle.poly_specs.specs.Picks.{HasEnds, HasNoInteger, IsPick}
-use Rattle.column_pick.specs.Ranges.{parted, IsUpTo}
+use Rattle.column_pick.specs.Ranges.{parted, IsUpTo, IsUnder}
 use Rattle.column_pick.specs.declared.ranges.Cap.{Cap}
 
 -- these are the ends of the set, and neither they nor an integer is in it: the middle is picked
@@ -48,3 +48,7 @@ IsClosedEnd from_low low high end =
 -- the cap with the other sign
 abbrev pub opposite_cap : Cap → Cap
 opposite_cap cap = record { end = opposite cap.end; is_open = cap.is_open }
+
+-- 0 is within the cap, over whatever its end stands
+abbrev pub HasZero : Option Cap → Type 0
+HasZero cap = (parts : ℤ) → pos 0 <ℤ parts → IsUnder parts cap zero_fraction

@@ -4,5 +4,6 @@
 
 mod gaps;
 mod parts;
+mod picks;
 mod ranges;
 mod wholes;
