@@ -4,3 +4,4 @@ pub mod RowLemmas
 pub mod WholeLemmas
 pub mod GapLemmas
 pub mod BetweenLemmas
+pub mod CommonLemmas

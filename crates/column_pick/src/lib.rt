@@ -2,6 +2,7 @@
 //! of the values that the system leaves for its column.
 #![tactic(auto)]
 
+mod common;
 mod gaps;
 mod parts;
 mod picks;
