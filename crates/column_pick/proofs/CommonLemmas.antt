@@ -145,3 +145,11 @@ fits_more f xs i x h is fits all =
 
 pub numerator_passes : (f : Fraction → ℤ) (xs : List Fraction) (x : Fraction) → In x xs → PassesBits (f x) → SomePasses (map f xs)
 numerator_passes f xs x h p = any_in PassesBits (map f xs) (f x) (in_map f x xs h) p
+
+pub passes_after : (n : ℤ) (ns : List ℤ) → SomePasses ns → SomePasses (n ∷ ns)
+passes_after n ns (k, z, h, at, p) = (suc k, z, omega arith, at, p)
+
+-- ---- what is known of the numerators
+
+pub each_divides : (xs : List Fraction) → AllByRecursion (λ x. den_of x ∣ common_den xs) xs
+each_divides xs = dens-each 1 xs

@@ -5,3 +5,4 @@ pub mod WholeLemmas
 pub mod GapLemmas
 pub mod BetweenLemmas
 pub mod CommonLemmas
+pub mod NextLemmas

@@ -61,7 +61,8 @@ pub fn see_all_kept(numbers: &[Frac])
 
 /// The least denominator that serves all the fractions, where it does not pass 128 bits.
 fn common_den(numbers: &[Frac]) -> Option<i128>
-    ensures { SomeIff result (FitsBits (pos (common_den numbers.now))) (pos (common_den numbers.now)) }
+    ensures value { SomeIff result (FitsBits (pos (common_den numbers.now))) (pos (common_den numbers.now)) }
+    ensures positive { IfSome result (λ d. pos 0 <ℤ d) }
 {
     see_all_kept(numbers);
     let mut den = 1;
@@ -122,4 +123,32 @@ fn push_zeros(nums: &mut Vec<i128>, count: usize) -> Result<(), AllocError>
         nums.push(0)?;
     }
     Ok(())
+}
+
+/// The point that has the fractions in its first columns, over their common denominator, and 0 in
+/// the others.
+fn point_over(alloc: Global, numbers: &[Frac], den: i128, width: usize) -> Result<Point, RowFault>
+    requires few { length numbers.now ≤ width }
+    requires den { den ≡ pos (common_den numbers.now) }
+    requires positive { pos 0 <ℤ den }
+    ensures ok { IfOk result (λ p. p ≡ fixed_point width numbers.now) }
+    ensures passes { result ≡ Err RowFault.Passes → SomePasses (common_nums numbers.now) }
+{
+    let mut nums = Vec::new(alloc);
+    push_numerators(&mut nums, numbers, den)?;
+    push_zeros(&mut nums, width - numbers.len())?;
+    Ok(Point::make(nums, den).unwrap())
+}
+
+/// The point that has the fractions in its first columns, over their least common denominator, and
+/// 0 in the others. `Passes` where the denominator or a numerator passes 128 bits.
+pub fn fixed_point(alloc: Global, numbers: &[Frac], width: usize) -> Result<Point, RowFault>
+    requires { length numbers.now ≤ width }
+    ensures ok { IfOk result (λ p. p ≡ fixed_point width numbers.now) }
+    ensures passes { result ≡ Err RowFault.Passes → SomePasses (common_numbers numbers.now) }
+{
+    match common_den(numbers) {
+        None => Err(RowFault::Passes),
+        Some(den) => point_over(alloc, numbers, den, width),
+    }
 }
