@@ -1,6 +1,7 @@
 -- The pick of the numbers between two caps.
-use Rattle.std.proofs.Common.{◌≡◌, ◌↔◌, ◌⊎◌, inl, inr, ℕ, ◌*◌, ◌≤◌, Bool, true, false, Option, Some, None, refl, sym, ◌∙◌, ap, subst, arith, ℤ, pos, negsuc, ◌*ℤ◌, ◌≤ℤ◌, ◌<ℤ◌, neg_ℤ, unsigned_abs}
-use Rattle.std.specs.Prelude.{⊤, MatchOption}
+use Rattle.std.proofs.Common.{◌≡◌, ◌↔◌, ◌⊎◌, inl, inr, ℕ, ◌*◌, ◌≤◌, Bool, true, false, Option, Some, None, Result, Ok, Err, refl, sym, ◌∙◌, ap, subst, arith, ℤ, pos, negsuc, ◌*ℤ◌, ◌≤ℤ◌, ◌<ℤ◌, neg_ℤ, unsigned_abs}
+use Rattle.std.specs.Prelude.{⊤, MatchOption, IfOk}
+use Rattle.fm_eliminate.specs.declared.RowFault.{RowFault}
 use Rattle.std.proofs.lemmas.Int.{ints, by_lt_z, unsigned_abs-mul}
 use Rattle.poly_specs.proofs.ColumnLemmas.{abs_is}
 use Rattle.poly_specs.proofs.FractionLemmas.{same-AtMost}
@@ -218,3 +219,9 @@ whole_too_far S o n e pick none = subst (IsPickOf S) (sym e) (inl (whole n, pick
 
 pub opposite_fits : (n : ℤ) → FitsBits (neg_ℤ n) → FitsBits n
 opposite_fits n h = omega (arith, ints, h)
+
+-- what is answered of one set is answered of the other
+pub ok_same : (S U : Fraction → Type 0) → Within S U → Within U S → (r : Result Fraction RowFault) →
+    IfOk r (λ v. IsLowest v × IsPick S v) → IfOk r (λ v. IsLowest v × IsPick U v)
+ok_same S U to back (Ok v) (low, pick) = (low, pick_same S U to back v pick)
+ok_same S U to back (Err e) h = tt

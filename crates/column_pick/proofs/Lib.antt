@@ -6,3 +6,6 @@ pub mod GapLemmas
 pub mod BetweenLemmas
 pub mod CommonLemmas
 pub mod NextLemmas
+pub mod LevelLemmas
+pub mod EvalLemmas
+pub mod ColumnLemmas

@@ -13,7 +13,12 @@ use Rattle.poly_specs.proofs.EliminationLemmas.{den-with_number}
 use Rattle.poly_specs.proofs.FractionLemmas.{same-trans}
 use Rattle.poly_specs.proofs.IntLemmas.{products}
 use Rattle.poly_specs.proofs.LinearLemmas.{scaled_by, cancelled_by}
+use Rattle.poly_specs.proofs.LineLemmas.{Line, meets_all_interval}
 use Rattle.poly_specs.proofs.LowestLemmas.{size-positive}
+use Rattle.poly_specs.proofs.PickLemmas.{member}
+use Rattle.poly_specs.proofs.SetLemmas.{Within, interval_same}
+use Rattle.poly_specs.specs.Picks.{IsPick}
+use Rattle.poly_specs.specs.Sets.{IsInterval, HasMember}
 use Rattle.poly_specs.proofs.ProjectionLemmas.{with_number, value-rest, rest, SameBut-with_number}
 use Rattle.poly_specs.specs.Arithmetic.{lowest}
 use Rattle.poly_specs.specs.Bounds.{IsPoint}
@@ -25,8 +30,7 @@ use Rattle.poly_specs.specs.Systems.{System, IsLevel}
 use Rattle.column_pick.proofs.CommonLemmas.{common_positive, each_divides, over_common}
 use Rattle.column_pick.specs.Fixed.{padded, fixed_point}
 use Rattle.column_pick.specs.Nexts.{HasFirst, IsNext}
-use Rattle.column_pick.specs.Ranges.{MeetsAt, MeetsRow, IsWithin, IsBetween, IsRangeOf}
-use Rattle.column_pick.specs.declared.ranges.Range.{Range}
+use Rattle.column_pick.specs.Ranges.{MeetsAt, MeetsRow, IsWithin, AreWithin}
 
 -- ---- padded numbers
 
@@ -113,9 +117,8 @@ within_meets x q r z v hz hv m w = go (coef_at x r) refl
 
 -- ---- the next column
 
-module _ (s : System) (given : List Fraction) (level : List Row) (range : Range) (fractions : All IsFraction given) (within : length given < s.width)
-    (is_level : IsLevel s.width (length given + 1) s.rows level) (is_range : IsRangeOf (length given) (fixed_point s.width given) level range)
-    (q : Point) (has : HasFirst s given q) where
+module _ (s : System) (given : List Fraction) (level : List Row) (fractions : All IsFraction given) (within : length given < s.width)
+    (is_level : IsLevel s.width (length given + 1) s.rows level) (q : Point) (has : HasFirst s given q) where
   abbrev x : ℕ
   x = length given
 
@@ -128,7 +131,7 @@ module _ (s : System) (given : List Fraction) (level : List Row) (range : Range)
   pub base-den : pos 0 <ℤ base.den
   base-den = let h = positive in omega (arith, ints, h)
 
-  base-length : length base.num ≡ s.width
+  pub base-length : length base.num ≡ s.width
   base-length = length-padded s.width (common_nums given) (omega (arith, length-map given (num_over (common_den given))))
 
   base-free : number_at x base.num ≡ pos 0
@@ -148,7 +151,7 @@ module _ (s : System) (given : List Fraction) (level : List Row) (range : Range)
       let each : All (λ y. unsigned_abs (lowest y).den ∣ d) given = All-from_recursion (λ y. unsigned_abs (lowest y).den ∣ d) given (each_divides given) in
       subst (λ z. SameFraction (record { num = z; den = pos d }) y) (sym at) (over_common y d (is_given j h) positive (each j zero_fraction h))
 
-  in_base : x < length base.num
+  pub in_base : x < length base.num
   in_base = omega (arith, base-length, within)
 
   t-den : (v : Fraction) → IsFraction v → pos 0 <ℤ (trial x base v).den
@@ -213,13 +216,27 @@ module _ (s : System) (given : List Fraction) (level : List Row) (range : Range)
   own_meets : All (λ r. MeetsRow x base r own) level
   own_meets = next_meets own own_is own_next
 
-  pub between_next : (v : Fraction) → IsFraction v → IsBetween base.den range v → IsNext s given v
-  between_next v hv b =
-      let w = (is_range v hv).0 b in
-      meets_next v hv (λ k d lt. within_meets x base (get_or level k d) own v own_is hv (own_meets k d lt) (w k d lt))
+  -- these values are an interval
+  rows_interval : IsInterval (λ v. All (λ r. MeetsRow x base r v) level)
+  rows_interval = record {
+    same = λ y z hy hz e m k d lt. ((meets_all_interval (line k d ∷ [])).same y z hy hz e (m k d lt, tt)).0;
+    between = λ y z w hy hz hw a b m n k d lt. ((meets_all_interval (line k d ∷ [])).between y z w hy hz hw a b (m k d lt, tt) (n k d lt, tt)).0;
+  }
+    where
+      line : (k : ℕ) (d : Row) → Line
+      line k d = record { lead = coef_at x (get_or level k d) *ℤ base.den; cst = row_value (get_or level k d) base; strict = (get_or level k d).strict }
 
-  pub next_between : (v : Fraction) → IsFraction v → IsNext s given v → IsBetween base.den range v
-  next_between v hv n = let m = next_meets v hv n in (is_range v hv).1 (λ k d lt. λ some. m k d lt)
+  pub next_member : (v : Fraction) → IsPick (IsNext s given) v → IsNext s given v
+  next_member v pick = member v (interval_same (λ w. All (λ r. MeetsRow x base r w) level) (IsNext s given) meets_next next_meets rows_interval) pick
 
-  pub own_between : IsBetween base.den range own
-  own_between = next_between own own_is own_next
+  pub within_next : Within (AreWithin x base level) (IsNext s given)
+  within_next v hv w = meets_next v hv (λ k d lt. within_meets x base (get_or level k d) own v own_is hv (own_meets k d lt) (w k d lt))
+
+  pub next_within : Within (IsNext s given) (AreWithin x base level)
+  next_within v hv n = let m = next_meets v hv n in λ k d lt. λ some. m k d lt
+
+  pub some_within : HasMember (AreWithin x base level)
+  some_within = (own, own_is, next_within own own_is own_next)
+
+  pub base-wide : AllWide (length base.num) level
+  base-wide k d lt = is_level.wide k d lt ∙ sym base-length

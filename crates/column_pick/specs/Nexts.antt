@@ -7,7 +7,7 @@ use Rattle.poly_specs.specs.Elimination.{eliminated_each, columns_down}
 use Rattle.poly_specs.specs.Evaluation.{eval_numbers}
 use Rattle.poly_specs.specs.Fractions.{Fraction, SameFraction, zero_fraction}
 use Rattle.poly_specs.specs.Lists.{In}
-use Rattle.poly_specs.specs.Rows.{Point, Row, coordinate}
+use Rattle.poly_specs.specs.Rows.{Point, Row, over, coordinate}
 use Rattle.poly_specs.specs.Systems.{System, Levels, no_system}
 use Rattle.column_pick.specs.RangePicks.{FormingPasses}
 
@@ -28,9 +28,13 @@ IsNext s given v = (q : Point) × HasFirst s given q × SameFraction (coordinate
 abbrev pub next_rows : System → List Fraction → List Row
 next_rows s given = eliminated_each (columns_down (length given + 1) (s.width - (length given + 1))) s.rows
 
--- evaluating one of them passes at the given numbers
+-- evaluating one of these rows at the point passes
+abbrev pub AnyPasses : Point → List Row → Type 0
+AnyPasses q rows = (r : Row) × In r rows × SomePasses (eval_numbers r q.num q.den)
+
+-- evaluating one of the next column's rows passes at the given numbers
 abbrev pub RowPasses : System → List Fraction → Type 0
-RowPasses s given = (r : Row) × In r (next_rows s given) × SomePasses (eval_numbers r (common_nums given) (pos (common_den given)))
+RowPasses s given = AnyPasses (over (pos (common_den given)) (common_nums given)) (next_rows s given)
 
 -- picking the next number passes: writing the given ones over one denominator, evaluating a row at them, or forming the pick
 abbrev pub NextPasses : System → List Fraction → Type 0

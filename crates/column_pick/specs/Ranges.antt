@@ -60,9 +60,13 @@ MeetsRow x q r v = MeetsAt q.den (coef_at x r) (row_value r q) r.strict v
 abbrev pub IsWithin : ℕ → Point → Row → Fraction → Type 0
 IsWithin x q r v = coef_at x r ≢ pos 0 → MeetsRow x q r v
 
+-- v is within what each of these rows sets
+abbrev pub AreWithin : ℕ → Point → List Row → Fraction → Type 0
+AreWithin x q rows v = All (λ r. IsWithin x q r v) rows
+
 -- the range has the numbers that are within what these rows set
 abbrev pub IsRangeOf : ℕ → Point → List Row → Range → Type 0
-IsRangeOf x q rows range = (v : Fraction) → IsFraction v → IsBetween q.den range v ↔ All (λ r. IsWithin x q r v) rows
+IsRangeOf x q rows range = (v : Fraction) → IsFraction v → IsBetween q.den range v ↔ AreWithin x q rows v
 
 -- ---- whole numbers
 

@@ -4,6 +4,7 @@
 
 mod common;
 mod gaps;
+mod nexts;
 mod parts;
 mod picks;
 mod ranges;

@@ -1,0 +1,15 @@
+-- The level of a column, among the levels of a system.
+use Rattle.std.proofs.Common.{◌≡◌, ℕ, ◌+◌, ◌-◌, ◌<◌, ◌≤◌, List, length, get_or, sym, ap, ◌∙◌, subst, arith}
+use Rattle.std.proofs.lemmas.List.{get_or_default}
+use Rattle.poly_specs.specs.Systems.{System, Levels, IsLevel, AreLevels, no_system}
+use Rattle.column_pick.specs.Nexts.{whole_of}
+
+pub level_is : (l : Levels) (x : ℕ) (t : System) → AreLevels l.first (whole_of l) l → l.first ≤ x → x < (whole_of l).width →
+    t ≡ get_or l.systems (x + 1 - l.first) t → IsLevel (whole_of l).width (x + 1) (whole_of l).rows t.rows
+level_is l x t are from within is =
+    let i : ℕ = x + 1 - l.first in
+    let at : l.first + i ≡ x + 1 = omega (arith, from) in
+    let inside : i < length l.systems = (let n = are.one_for_each in omega (arith, n, from, within)) in
+    let same : get_or l.systems i no_system ≡ t = get_or_default l.systems i no_system t inside ∙ sym is in
+    subst (λ s. IsLevel (whole_of l).width (x + 1) (whole_of l).rows s.rows) same
+    (subst (λ c. IsLevel (whole_of l).width c (whole_of l).rows (get_or l.systems i no_system).rows) at (are.each i (omega (arith, from, within))))
