@@ -183,7 +183,7 @@ module _ (p : ℤ) (down up : Cap) (hp : pos 0 <ℤ p) (down_is : IsFraction dow
 -- ---- one set for another
 
 module _ (S U : Fraction → Type 0) (to : Within S U) (back : Within U S) where
-  open_gap_same : (low high : Fraction) → IsOpenGap S low high → IsOpenGap U low high
+  pub open_gap_same : (low high : Fraction) → IsOpenGap S low high → IsOpenGap U low high
   open_gap_same low high g = record {
     ends = record {
       low_is = g.ends.low_is;

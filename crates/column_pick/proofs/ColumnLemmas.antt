@@ -43,4 +43,4 @@ module _ (s : System) (given : List Fraction) (level : List Row) (point : Point)
   column_passes (inl passes) = inr (inl (level_passes s given level a.is_level (subst (λ p. AnyPasses p level) a.point_is passes)))
   column_passes (inr forming) =
       inr (inr (forming_same (Over base) (IsNext s given) (within_next s given level a.fractions a.within a.is_level a.some.0 a.some.1)
-          (next_within s given level a.fractions a.within a.is_level a.some.0 a.some.1) (subst (λ p. FormingPasses (Over p)) a.point_is forming)))
+      (next_within s given level a.fractions a.within a.is_level a.some.0 a.some.1) (subst (λ p. FormingPasses (Over p)) a.point_is forming)))

@@ -57,7 +57,7 @@ padded_none r ns d k none =
     let sum : FitsBits (dot r.coef (ns ++ replicate k (pos 0)) +ℤ r.cst *ℤ d) = subst (λ z. FitsBits (z +ℤ r.cst *ℤ d)) (sym (dot-padded r.coef ns k)) end.1.0 in
     All-from_recursion FitsBits (eval_numbers r (ns ++ replicate k (pos 0)) d)
     (AllFit-append (running (pos 0) r.coef (ns ++ replicate k (pos 0))) ((r.cst *ℤ d) ∷ (dot r.coef (ns ++ replicate k (pos 0)) +ℤ r.cst *ℤ d) ∷ [])
-        (padded_fit (pos 0) r.coef ns k zero_fits (AllFit-front (running (pos 0) r.coef ns) tail all)) (end.0, (sum, tt)))
+    (padded_fit (pos 0) r.coef ns k zero_fits (AllFit-front (running (pos 0) r.coef ns) tail all)) (end.0, (sum, tt)))
   where
     zero_fits : FitsBits (pos 0)
     zero_fits = omega arith

@@ -44,7 +44,7 @@ least_middle-same x y hx hy =
     let hm = middle-den a b ha hb in
     same-trans (least_middle x y) (middle a b) (middle x y) (lowest-IsFraction (half (least_sum a b)) hh) hm (middle-den x y hx hy)
     (same-trans (least_middle x y) (half (least_sum a b)) (middle a b) (lowest-IsFraction (half (least_sum a b)) hh) hh hm (lowest-same (half (least_sum a b)))
-        (same-trans (half (least_sum a b)) (half (sum_of a b)) (middle a b) hh (half-IsFraction (sum_of a b) hs) hm halves turned))
+    (same-trans (half (least_sum a b)) (half (sum_of a b)) (middle a b) hh (half-IsFraction (sum_of a b) hs) hm halves turned))
     (middle-same a b x y (lowest-same x) (lowest-same y))
 
 flipped : (x y : Fraction) → SameFraction (middle x y) (middle y x)
@@ -158,8 +158,11 @@ module _ (p : ℤ) (low high : Cap) (hp : pos 0 <ℤ p) (low_is : IsFraction low
       IsTrue low.is_open → IsTrue high.is_open → IsFraction x → SameFraction x (middle l h) → IsPick G x
   middle_picked true x side ol oh hx same = picked l h x (inl (side, ends)) hx (inr (inr (low_out ol, high_out oh, same)))
   middle_picked false x side ol oh hx same =
-      picked h l x (inr (side, ends)) hx (inr (inr (high_out oh, low_out ol,
-          same-trans x (middle l h) (middle h l) hx (middle-den l h hl hh) (middle-den h l hh hl) same (flipped l h))))
+      picked h l x (inr (side, ends)) hx (inr (inr (
+        high_out oh,
+        low_out ol,
+        same-trans x (middle l h) (middle h l) hx (middle-den l h hl hh) (middle-den h l hh hl) same (flipped l h),
+      )))
 
   pub end_pick_of : (above : Bool) (end : Fraction) (o : Option Fraction) → IsFraction end → MatchBool above (AtMost zero_fraction l) (AtMost h zero_fraction) →
       MatchBool above (IsFirstClosed low high end) (IsFirstClosed high low end) →

@@ -9,3 +9,5 @@ pub mod NextLemmas
 pub mod LevelLemmas
 pub mod EvalLemmas
 pub mod ColumnLemmas
+pub mod SoFarLemmas
+pub mod StartLemmas

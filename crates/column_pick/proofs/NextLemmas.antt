@@ -44,7 +44,7 @@ length-padded n ns h = omega (arith, length-append ns (replicate (n - length ns)
 
 -- ---- points that agree before a column have the same coordinates there
 
-before_coordinates : (c j : ℕ) (p q : Point) → SameBefore c p q → j < c → SameFraction (coordinate j p) (coordinate j q)
+pub before_coordinates : (c j : ℕ) (p q : Point) → SameBefore c p q → j < c → SameFraction (coordinate j p) (coordinate j q)
 before_coordinates c j p q e h =
     let s = coordinates (over p.den (take c p.num)) (over q.den (take c q.num)) e j in
     let a : number_at j (take c p.num) ≡ number_at j p.num = get_or-take c p.num j (pos 0) h in
@@ -115,15 +115,11 @@ within_meets x q r z v hz hv m w = go (coef_at x r) refl
     go (pos (suc n)) e = w (λ f. absurd (omega (arith, ints, e, f)))
     go (negsuc n) e = w (λ f. absurd (omega (arith, ints, e, f)))
 
--- ---- the next column
+-- ---- the point of the fixed numbers
 
-module _ (s : System) (given : List Fraction) (level : List Row) (fractions : All IsFraction given) (within : length given < s.width)
-    (is_level : IsLevel s.width (length given + 1) s.rows level) (q : Point) (has : HasFirst s given q) where
-  abbrev x : ℕ
-  x = length given
-
+module _ (n : ℕ) (given : List Fraction) (fractions : All IsFraction given) (fits : length given ≤ n) where
   abbrev base : Point
-  base = fixed_point s.width given
+  base = fixed_point n given
 
   positive : 0 < common_den given
   positive = common_positive given (recursion_from_All IsFraction given fractions)
@@ -131,76 +127,89 @@ module _ (s : System) (given : List Fraction) (level : List Row) (fractions : Al
   pub base-den : pos 0 <ℤ base.den
   base-den = let h = positive in omega (arith, ints, h)
 
-  pub base-length : length base.num ≡ s.width
-  base-length = length-padded s.width (common_nums given) (omega (arith, length-map given (num_over (common_den given))))
+  pub base-length : length base.num ≡ n
+  base-length = length-padded n (common_nums given) (omega (arith, length-map given (num_over (common_den given))))
 
-  base-free : number_at x base.num ≡ pos 0
+  base-free : number_at (length given) base.num ≡ pos 0
   base-free =
-      ap (λ k. get_or base.num k (pos 0)) (sym (length-map given (num_over (common_den given)))) ∙ after_itself (common_nums given) (s.width - length (common_nums given))
+      ap (λ k. get_or base.num k (pos 0)) (sym (length-map given (num_over (common_den given)))) ∙ after_itself (common_nums given) (n - length (common_nums given))
 
-  is_given : (j : ℕ) → j < x → IsFraction (get_or given j zero_fraction)
+  pub is_given : (j : ℕ) → j < length given → IsFraction (get_or given j zero_fraction)
   is_given j h = fractions j zero_fraction h
 
-  base-given : (j : ℕ) → j < x → SameFraction (coordinate j base) (get_or given j zero_fraction)
+  pub base-given : (j : ℕ) → j < length given → SameFraction (coordinate j base) (get_or given j zero_fraction)
   base-given j h =
       let d : ℕ = common_den given in
       let y : Fraction = get_or given j zero_fraction in
       let at : number_at j base.num ≡ num_over d y =
-      get_or-append (common_nums given) (replicate (s.width - length (common_nums given)) (pos 0)) (pos 0) j (omega (arith, length-map given (num_over d)))
+      get_or-append (common_nums given) (replicate (n - length (common_nums given)) (pos 0)) (pos 0) j (omega (arith, length-map given (num_over d)))
       ∙ get_or-map (num_over d) given j zero_fraction (pos 0) h in
       let each : All (λ y. unsigned_abs (lowest y).den ∣ d) given = All-from_recursion (λ y. unsigned_abs (lowest y).den ∣ d) given (each_divides given) in
       subst (λ z. SameFraction (record { num = z; den = pos d }) y) (sym at) (over_common y d (is_given j h) positive (each j zero_fraction h))
 
-  pub in_base : x < length base.num
-  in_base = omega (arith, base-length, within)
+-- ---- the next column
 
-  t-den : (v : Fraction) → IsFraction v → pos 0 <ℤ (trial x base v).den
-  t-den v hv = trial-den x base v base-den hv
+module _ (s : System) (given : List Fraction) (level : List Row) (fractions : All IsFraction given) (within : length given < s.width)
+    (is_level : IsLevel s.width (length given + 1) s.rows level) (q : Point) (has : HasFirst s given q) where
+  abbrev x : ℕ
+  x = length given
 
-  t-given : (v : Fraction) → IsFraction v → (j : ℕ) → j < x → SameFraction (coordinate j (trial x base v)) (get_or given j zero_fraction)
+  abbrev start : Point
+  start = fixed_point s.width given
+
+  fits : length given ≤ s.width
+  fits = omega (arith, within)
+
+  in_base : x < length start.num
+  in_base = omega (arith, (base-length s.width given fractions fits), within)
+
+  t-den : (v : Fraction) → IsFraction v → pos 0 <ℤ (trial x start v).den
+  t-den v hv = trial-den x start v (base-den s.width given fractions fits) hv
+
+  t-given : (v : Fraction) → IsFraction v → (j : ℕ) → j < x → SameFraction (coordinate j (trial x start v)) (get_or given j zero_fraction)
   t-given v hv j h =
       let other : j ≢ x = λ e. absurd (omega (arith, e)) in
-      same-trans (coordinate j (trial x base v)) (coordinate j base) (get_or given j zero_fraction) (t-den v hv) base-den (is_given j h) (sym (trial-other x j base v other)) (base-given j h)
+      same-trans (coordinate j (trial x start v)) (coordinate j start) (get_or given j zero_fraction) (t-den v hv) (base-den s.width given fractions fits) (is_given s.width given fractions fits j h) (sym (trial-other x j start v other)) (base-given s.width given fractions fits j h)
 
   row_wide : (k : ℕ) (d : Row) → k < length level → x < length (get_or level k d).coef
   row_wide k d h = let w = is_level.wide k d h in omega (arith, w, within)
 
-  to_rows : (v : Fraction) → IsFraction v → AllHold level (trial x base v) → All (λ r. MeetsRow x base r v) level
+  to_rows : (v : Fraction) → IsFraction v → AllHold level (trial x start v) → All (λ r. MeetsRow x start r v) level
   to_rows v hv h k d lt =
       let r : Row = get_or level k d in
-      subst (Allows r.strict) (trial-value x base v r (row_wide k d lt) in_base base-free hv) (h k d lt)
+      subst (Allows r.strict) (trial-value x start v r (row_wide k d lt) in_base (base-free s.width given fractions fits) hv) (h k d lt)
 
-  from_rows : (v : Fraction) → IsFraction v → All (λ r. MeetsRow x base r v) level → AllHold level (trial x base v)
+  from_rows : (v : Fraction) → IsFraction v → All (λ r. MeetsRow x start r v) level → AllHold level (trial x start v)
   from_rows v hv m k d lt =
       let r : Row = get_or level k d in
-      subst (Allows r.strict) (sym (trial-value x base v r (row_wide k d lt) in_base base-free hv)) (m k d lt)
+      subst (Allows r.strict) (sym (trial-value x start v r (row_wide k d lt) in_base (base-free s.width given fractions fits) hv)) (m k d lt)
 
-  at_trial : (v : Fraction) → IsFraction v → AllHold level (trial x base v) ↔ SomeValuesHold s.width (x + 1) s.rows (trial x base v)
-  at_trial v hv = is_level.same (trial x base v) (t-den v hv) (trial-length x base v ∙ base-length)
+  at_trial : (v : Fraction) → IsFraction v → AllHold level (trial x start v) ↔ SomeValuesHold s.width (x + 1) s.rows (trial x start v)
+  at_trial v hv = is_level.same (trial x start v) (t-den v hv) (trial-length x start v ∙ (base-length s.width given fractions fits))
 
-  next_meets : (v : Fraction) → IsFraction v → IsNext s given v → All (λ r. MeetsRow x base r v) level
+  next_meets : (v : Fraction) → IsFraction v → IsNext s given v → All (λ r. MeetsRow x start r v) level
   next_meets v hv (p, first, e) =
-      let t : Point = trial x base v in
+      let t : Point = trial x start v in
       let hp = first.point.positive in
-      let same : SameBefore (x + 1) t p = before_from_coordinates (x + 1) t p (trial-length x base v ∙ base-length ∙ sym first.point.sized) (λ j h. elim (cases_lt j x) [
-        | inl lt ↦ same-trans (coordinate j t) (get_or given j zero_fraction) (coordinate j p) (t-den v hv) (is_given j lt) hp (t-given v hv j lt) (sym (first.agrees j lt))
+      let same : SameBefore (x + 1) t p = before_from_coordinates (x + 1) t p (trial-length x start v ∙ (base-length s.width given fractions fits) ∙ sym first.point.sized) (λ j h. elim (cases_lt j x) [
+        | inl lt ↦ same-trans (coordinate j t) (get_or given j zero_fraction) (coordinate j p) (t-den v hv) (is_given s.width given fractions fits j lt) hp (t-given v hv j lt) (sym (first.agrees j lt))
         | inr ge ↦ (let i : x ≡ j = omega arith in subst (λ k. SameFraction (coordinate k t) (coordinate k p)) i
-            (same-trans (coordinate x t) v (coordinate x p) (t-den v hv) hv hp (trial-here x base v in_base hv) (sym e)))
+            (same-trans (coordinate x t) v (coordinate x p) (t-den v hv) hv hp (trial-here x start v in_base hv) (sym e)))
       ]) in
       to_rows v hv ((at_trial v hv).1 (p, record { positive = hp; sized = first.point.sized; same = same; holds = first.point.holds }))
 
-  meets_next : (v : Fraction) → IsFraction v → All (λ r. MeetsRow x base r v) level → IsNext s given v
+  meets_next : (v : Fraction) → IsFraction v → All (λ r. MeetsRow x start r v) level → IsNext s given v
   meets_next v hv m =
-      let t : Point = trial x base v in
+      let t : Point = trial x start v in
       let ht = t-den v hv in
       let (p, ext) = (at_trial v hv).0 (from_rows v hv m) in (
         p,
         record {
           point = record { positive = ext.positive; sized = ext.sized; holds = ext.holds };
-          agrees = λ j h. same-trans (coordinate j p) (coordinate j t) (get_or given j zero_fraction) ext.positive ht (is_given j h)
+          agrees = λ j h. same-trans (coordinate j p) (coordinate j t) (get_or given j zero_fraction) ext.positive ht (is_given s.width given fractions fits j h)
               (sym (before_coordinates (x + 1) j t p ext.same (omega arith))) (t-given v hv j h);
         },
-        same-trans (coordinate x p) (coordinate x t) v ext.positive ht hv (sym (before_coordinates (x + 1) x t p ext.same (omega arith))) (trial-here x base v in_base hv),
+        same-trans (coordinate x p) (coordinate x t) v ext.positive ht hv (sym (before_coordinates (x + 1) x t p ext.same (omega arith))) (trial-here x start v in_base hv),
       )
 
   -- what q has in the column
@@ -213,30 +222,27 @@ module _ (s : System) (given : List Fraction) (level : List Row) (fractions : Al
   own_next : IsNext s given own
   own_next = (q, has, refl)
 
-  own_meets : All (λ r. MeetsRow x base r own) level
+  own_meets : All (λ r. MeetsRow x start r own) level
   own_meets = next_meets own own_is own_next
 
   -- these values are an interval
-  rows_interval : IsInterval (λ v. All (λ r. MeetsRow x base r v) level)
+  rows_interval : IsInterval (λ v. All (λ r. MeetsRow x start r v) level)
   rows_interval = record {
     same = λ y z hy hz e m k d lt. ((meets_all_interval (line k d ∷ [])).same y z hy hz e (m k d lt, tt)).0;
     between = λ y z w hy hz hw a b m n k d lt. ((meets_all_interval (line k d ∷ [])).between y z w hy hz hw a b (m k d lt, tt) (n k d lt, tt)).0;
   }
     where
       line : (k : ℕ) (d : Row) → Line
-      line k d = record { lead = coef_at x (get_or level k d) *ℤ base.den; cst = row_value (get_or level k d) base; strict = (get_or level k d).strict }
+      line k d = record { lead = coef_at x (get_or level k d) *ℤ start.den; cst = row_value (get_or level k d) start; strict = (get_or level k d).strict }
 
   pub next_member : (v : Fraction) → IsPick (IsNext s given) v → IsNext s given v
-  next_member v pick = member v (interval_same (λ w. All (λ r. MeetsRow x base r w) level) (IsNext s given) meets_next next_meets rows_interval) pick
+  next_member v pick = member v (interval_same (λ w. All (λ r. MeetsRow x start r w) level) (IsNext s given) meets_next next_meets rows_interval) pick
 
-  pub within_next : Within (AreWithin x base level) (IsNext s given)
-  within_next v hv w = meets_next v hv (λ k d lt. within_meets x base (get_or level k d) own v own_is hv (own_meets k d lt) (w k d lt))
+  pub within_next : Within (AreWithin x start level) (IsNext s given)
+  within_next v hv w = meets_next v hv (λ k d lt. within_meets x start (get_or level k d) own v own_is hv (own_meets k d lt) (w k d lt))
 
-  pub next_within : Within (IsNext s given) (AreWithin x base level)
+  pub next_within : Within (IsNext s given) (AreWithin x start level)
   next_within v hv n = let m = next_meets v hv n in λ k d lt. λ some. m k d lt
 
-  pub some_within : HasMember (AreWithin x base level)
+  pub some_within : HasMember (AreWithin x start level)
   some_within = (own, own_is, next_within own own_is own_next)
-
-  pub base-wide : AllWide (length base.num) level
-  base-wide k d lt = is_level.wide k d lt ∙ sym base-length

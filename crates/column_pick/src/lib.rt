@@ -6,6 +6,9 @@ mod common;
 mod gaps;
 mod nexts;
 mod parts;
+mod picking;
 mod picks;
 mod ranges;
 mod wholes;
+
+pub use picking::pick;

@@ -4,8 +4,8 @@ ghost use Rattle.std.specs.Prelude.{◌≡◌, ◌↔◌, IsTrue, not, Some, Som
 ghost use Rattle.poly_specs.specs.Bits.{FitsBits};
 ghost use Rattle.column_pick.specs.Ranges.{IsUnder, whole, IsFloor, IsShort, IsLeastWhole, HasNoWhole};
 
-use crate::ranges::{Cap, negated};
 use crate::parts::see_kept;
+use crate::ranges::{Cap, negated};
 
 /// The whole part of a quotient.
 fn floor(number: i128, by: i128) -> i128

@@ -23,7 +23,7 @@ pub loop-x-preserved : goal.loop-x-preserved
 loop-x-preserved c =
     let f = num_over (unsigned_abs (to_z w128 (of_z w128 c.args.den))) in (
       numerators_more f c.args.numbers.now c.loop-x.x-index c.x-item.result c.args.nums.now.items c.loop-x.nums.items c.push_numerator.new.nums.items (omega arith) c.x-item.is
-      c.loop-x.invariant.0 c.in_ok-push_numerator.ensures.ok.0,
+          c.loop-x.invariant.0 c.in_ok-push_numerator.ensures.ok.0,
       fits_more f c.args.numbers.now c.loop-x.x-index c.x-item.result (omega arith) c.x-item.is c.in_ok-push_numerator.ensures.ok.1 c.loop-x.invariant.1,
     )
 

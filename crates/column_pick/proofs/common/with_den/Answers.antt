@@ -11,5 +11,5 @@ returns-clause-positive c =
     multiple_positive (to_z w128 (of_z w128 c.args.den)) (to_z w128 (of_z w128 c.den.result)) c.common_multiple.result
     (subst (λ (z : ℤ). pos 0 <ℤ z) (sym (to_z-of_z w128 c.args.den den_fits)) c.requires)
     (subst (λ (z : ℤ). pos 0 <ℤ z) (sym (to_z-of_z w128 c.den.result part_fits))
-        (subst (λ (z : ℤ). pos 0 <ℤ z) (sym c.den.ensures.value) c.den.ensures.kept.positive))
+    (subst (λ (z : ℤ). pos 0 <ℤ z) (sym c.den.ensures.value) c.den.ensures.kept.positive))
     c.common_multiple.ensures

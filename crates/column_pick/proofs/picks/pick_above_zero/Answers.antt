@@ -18,4 +18,3 @@ returns-in-Some c =
     let fits : SFits w128 c.args.parts = search rules in
     let said = subst (λ (p : ℤ). IsPickOf (IsBetween p (record { up = Some c.in-Some.up; down = Some c.args.down.now })) c.pick_above.result) (to_z-of_z w128 c.args.parts fits) c.pick_above.ensures in
     subst (λ (k : Option Cap). IsPickOf (IsBetween c.args.parts (record { up = k; down = Some c.args.down.now })) c.pick_above.result) (sym c.in-Some.is) said
-

@@ -18,4 +18,3 @@ returns-in-Some c =
     let fits : SFits w128 c.args.parts = search rules in
     let said = subst (λ (p : ℤ). IsPickOf (IsBetween p (record { up = Some c.args.up.now; down = Some c.in-Some.down })) c.pick_below.result) (to_z-of_z w128 c.args.parts fits) c.pick_below.ensures in
     subst (λ (k : Option Cap). IsPickOf (IsBetween c.args.parts (record { up = Some c.args.up.now; down = k })) c.pick_below.result) (sym c.in-Some.is) said
-

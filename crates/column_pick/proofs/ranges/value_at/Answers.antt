@@ -13,7 +13,7 @@ module _ (c : goal.After-eval) where
       let fits : SFits w128 c.den.result = search rules in
       subst (λ (ns : List ℤ). SomeIff c.eval.result (NonePasses (eval_numbers c.args.row.now ns c.args.point.now.den)) (row_value c.args.row.now (over c.args.point.now.den ns))) c.num.ensures.value
       (subst (λ (d : ℤ). SomeIff c.eval.result (NonePasses (eval_numbers c.args.row.now c.num.result.now d)) (row_value c.args.row.now (over d c.num.result.now)))
-          (to_z-of_z w128 c.den.result fits ∙ c.den.ensures.value) c.eval.ensures)
+      (to_z-of_z w128 c.den.result fits ∙ c.den.ensures.value) c.eval.ensures)
 
 pub returns-clause-some : goal.returns-clause-some
 returns-clause-some c = evaluated c.eval.result c.args.row.now c.args.point.now (said c)
