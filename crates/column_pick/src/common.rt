@@ -116,7 +116,7 @@ fn push_numerators(nums: &mut Vec<i128>, numbers: &[Frac], den: i128) -> Result<
 }
 
 /// Appends zeros.
-fn push_zeros(nums: &mut Vec<i128>, count: usize) -> Result<(), AllocError>
+pub fn push_zeros(nums: &mut Vec<i128>, count: usize) -> Result<(), AllocError>
     ensures { OnOk result (nums.new.items ≡ nums.old.items ++ replicate count (pos 0)) }
 {
     for _ in 0..count {

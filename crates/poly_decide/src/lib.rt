@@ -1,5 +1,6 @@
-//! What is decided of systems: whether one has a point, the bound of a sum over its points, and
-//! whether it entails a row or includes another system. Each answer is exact.
+//! What is decided of systems: whether one has a point, the bound of a sum over its points, whether
+//! it entails a row or includes another system, and the point that is picked from its levels. Each
+//! answer is exact.
 #![tactic(auto)]
 
 mod bounds;
@@ -12,6 +13,7 @@ mod sums;
 mod tests;
 
 pub use bounds::sup;
+pub use column_pick::pick;
 pub use emptiness::is_empty;
 pub use entailment::entails;
 use frac128::Frac;
