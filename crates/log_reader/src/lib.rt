@@ -1,11 +1,20 @@
-//! The lines of a log, from a source that gives its bytes in pieces.
+//! The lines of a log, from a source that gives its bytes in pieces, and the rows that lines are.
 #![tactic(auto)]
 
+mod fields;
 mod line;
+mod names;
+mod numbers;
 mod reader;
+mod refusal;
+mod rows;
 
 pub use line::Line;
 pub use reader::{LineReader, ReadFault};
+pub use refusal::RowRefusal;
+pub use rows::{LogRow, parse_cells, parse_header, parse_row};
 
+#[cfg(test)]
+mod row_tests;
 #[cfg(test)]
 mod tests;
