@@ -18,7 +18,8 @@ use Rattle.log_reader.specs.declared.line.Line.{Line}
 use Rattle.log_reader.specs.declared.line.Line.TheVariants.{Text, Long, End}
 use Rattle.log_reader.specs.declared.reader.ReadFault.{ReadFault}
 use Rattle.log_reader.specs.declared.reader.ReadFault.TheVariants as fault
-use Rattle.log_reader.specs.Reading.{Reading, Gets, Gives, Fails, HasNext, HasGiven}
+use Rattle.log_reader.specs.Reading.{Reading, Stored, IsOf, Moves, Gets, Gives, GivesNext, Fails, HasNext, HasGiven}
+use Rattle.log_reader.proofs.MoveLemmas.{is_own}
 use Rattle.log_reader.proofs.FillLemmas.{Consumes-more, Consumes-nothing}
 use Rattle.log_reader.proofs.GivenLemmas.{given_line, given_end, given_whole}
 use Rattle.hamon_engine.specs.declared.session.Session.{Session}
@@ -26,7 +27,7 @@ use Rattle.hamon_engine.specs.declared.status.Status.{Status}
 use Rattle.hamon_engine.specs.declared.status.Status.TheVariants as status
 use Rattle.hamon_engine.specs.Outcome.{Streams, Wrote, HasEnded, CoversAll, CoversWhole, CoversSome, NoAlarm, SomeAlarm, ReportsSome, Says, SaysBut, WriteSays, log_limit}
 use Rattle.hamon_engine.specs.Sessions.{Stands}
-use Rattle.hamon_engine.specs.Turns.{AddsLine, AddsBlock, IsReporting, TurnSays, GivesOne, FlushSays, status_for, write_status_for}
+use Rattle.hamon_engine.specs.Turns.{AddsLine, AddsBlock, IsReporting, IsReportingAt, TurnSays, GivesOne, FlushSays, status_for, write_status_for}
 
 abbrev streams : Option (List ℕ) → ℕ → Option (List ℕ) → ℕ → Streams
 streams l f o w = record { log = l; log_faults = f; out = o; out_faults = w }
@@ -74,7 +75,7 @@ first_given Ended a b read r new got lines (inr o) g over =
 
 -- neither a line feed nor the end is there: a report of the whole lines
 stops_whole : (m : SimpleModel) (before : Streams) (l k o : Option (List ℕ)) (f h w : ℕ) (r new : Reading) (s : Session) (pending got : List ℕ) (P : List ℕ → Type 0) →
-    (i : IsReporting m before (streams l f o w) r s pending) → Gets l k r new got → HasNoFeed (r.held ++ got) → new.has_ended ≡ false → P (i.read ++ got) →
+    (i : IsReportingAt m before (streams l f o w) r s pending) → Gets l k r new got → HasNoFeed (r.held ++ got) → new.has_ended ≡ false → P (i.read ++ got) →
     Wrote (rules_of m) before (streams k h o w) pending (CoversWhole P)
 stops_whole m before l k o f h w r new s pending got P i g none open_end why = record {
   read = i.read ++ got;
@@ -89,7 +90,7 @@ stops_whole m before l k o f h w r new s pending got P i g none open_end why = r
 
 -- a report of the first lines
 stops_some : (m : SimpleModel) (before : Streams) (l k o : Option (List ℕ)) (f h w : ℕ) (r new : Reading) (s : Session) (pending got : List ℕ) →
-    IsReporting m before (streams l f o w) r s pending → Gets l k r new got →
+    IsReportingAt m before (streams l f o w) r s pending → Gets l k r new got →
     Wrote (rules_of m) before (streams k h o w) pending (CoversSome (HasEnded before (streams k h o w)))
 stops_some m before l k o f h w r new s pending got i g = record {
   read = i.read ++ got;
@@ -106,7 +107,7 @@ stops_some m before l k o f h w r new s pending got i g = record {
 
 -- the end: a report of all
 ends_all : (m : SimpleModel) (before : Streams) (l k o : Option (List ℕ)) (f h w : ℕ) (r new : Reading) (s : Session) (pending got : List ℕ) (P : List Verdict → Type 0) →
-    (i : IsReporting m before (streams l f o w) r s pending) → Gets l k r new got → HasNoFeed (r.held ++ got) → unmarked r.given (r.held ++ got) ≡ [] → new.has_ended ≡ true →
+    (i : IsReportingAt m before (streams l f o w) r s pending) → Gets l k r new got → HasNoFeed (r.held ++ got) → unmarked r.given (r.held ++ got) ≡ [] → new.has_ended ≡ true →
     P i.replies → Wrote (rules_of m) before (streams k h o w) pending (CoversAll (HasEnded before (streams k h o w)) P)
 ends_all m before l k o f h w r new s pending got P i g none nothing over said = record {
   read = i.read ++ got;
@@ -130,7 +131,7 @@ ends_all m before l k o f h w r new s pending got P i g none nothing over said =
 
 -- the replies with an alarm, by the session's flag
 alarm_status : (m : SimpleModel) (before : Streams) (l k o : Option (List ℕ)) (f h w : ℕ) (r new : Reading) (s : Session) (pending got : List ℕ) (t : Bool) → s.has_alarm ≡ t →
-    (i : IsReporting m before (streams l f o w) r s pending) → Gets l k r new got → HasNoFeed (r.held ++ got) → unmarked r.given (r.held ++ got) ≡ [] → new.has_ended ≡ true →
+    (i : IsReportingAt m before (streams l f o w) r s pending) → Gets l k r new got → HasNoFeed (r.held ++ got) → unmarked r.given (r.held ++ got) ≡ [] → new.has_ended ≡ true →
     SaysBut (rules_of m) before (streams k h o w) pending (cond t status.Alarm status.Clean)
 alarm_status m before l k o f h w r new s pending got true e i g none nothing over =
     ends_all m before l k o f h w r new s pending got SomeAlarm i g none nothing over (i.stands.alarm.0 e)
@@ -142,7 +143,7 @@ alarm_status m before l k o f h w r new s pending got false e i g none nothing o
 
 -- the reading failed
 pub fails : (m : SimpleModel) (before : Streams) (l k o : Option (List ℕ)) (f h w : ℕ) (r new : Reading) (s : Session) (pending got : List ℕ) (x : ReadFault) →
-    IsReporting m before (streams l f o w) r s pending → Gets l k r new got → Fails (r.held ++ got) r new x → (x ≡ fault.Failed → Rose f h) →
+    IsReportingAt m before (streams l f o w) r s pending → Gets l k r new got → Fails (r.held ++ got) r new x → (x ≡ fault.Failed → Rose f h) →
     SaysBut (rules_of m) before (streams k h o w) pending (status_for x)
 fails m before l k o f h w r new s pending got fault.Failed i g why cause =
     stops_whole m before l k o f h w r new s pending got (λ _. Rose before.log_faults h) i g why.2 why.3 (rose_before before.log_faults f h i.log_faults (cause refl))
@@ -153,7 +154,7 @@ fails m before l k o f h w r new s pending got fault.Memory i g why cause = stop
 
 -- a line was read, and there was no memory for its block
 pub wants_memory : (m : SimpleModel) (before : Streams) (l k o : Option (List ℕ)) (f h w : ℕ) (r new : Reading) (s : Session) (pending after got : List ℕ) →
-    IsReporting m before (streams l f o w) r s pending → Gets l k r new got → after ≡ pending → SaysBut (rules_of m) before (streams k h o w) after status.Memory
+    IsReportingAt m before (streams l f o w) r s pending → Gets l k r new got → after ≡ pending → SaysBut (rules_of m) before (streams k h o w) after status.Memory
 wants_memory m before l k o f h w r new s pending after got i g e =
     subst (λ z. SaysBut (rules_of m) before (streams k h o w) z status.Memory) (sym e) (stops_some m before l k o f h w r new s pending got i g)
 
@@ -174,8 +175,8 @@ one_block : (m : SimpleModel) (at : Progress) (replies : List Verdict) (number :
 one_block m at replies number line old after t a = (a.block, [], a.here, [], a.next, sym (append-nil a.block), sym (append-nil a.here), a.judged, (refl, refl, refl))
 
 pub goes_on : (m : SimpleModel) (before : Streams) (l k o : Option (List ℕ)) (f h w : ℕ) (r new : Reading) (s t : Session) (pending after got : List ℕ) (line : Line) →
-    (i : IsReporting m before (streams l f o w) r s pending) → Gets l k r new got → Gives (r.held ++ got) r new line →
-    AddsBlock m i.at i.replies line pending after s t true → f ≤ h → IsReporting m before (streams k h o w) new t after
+    (i : IsReportingAt m before (streams l f o w) r s pending) → Gets l k r new got → Gives (r.held ++ got) r new line →
+    AddsBlock m i.at i.replies line pending after s t true → f ≤ h → IsReportingAt m before (streams k h o w) new t after
 goes_on m before l k o f h w r new s t pending after got line i g gives adds reads =
     let a = line_and_block m i.at i.replies (r.held ++ got) pending after r new line s t gives adds in
     let first = i.log_faults in
@@ -205,7 +206,7 @@ goes_on m before l k o f h w r new s t pending after got line i g gives adds rea
 
 -- the end of the log
 pub ends : (m : SimpleModel) (before : Streams) (l k o : Option (List ℕ)) (f h w : ℕ) (r new : Reading) (s t : Session) (pending after got : List ℕ) (line : Line) (ended : Status) →
-    (i : IsReporting m before (streams l f o w) r s pending) → Gets l k r new got → Gives (r.held ++ got) r new line →
+    (i : IsReportingAt m before (streams l f o w) r s pending) → Gets l k r new got → Gives (r.held ++ got) r new line →
     AddsBlock m i.at i.replies line pending after s t false → ended ≡ cond t.has_alarm status.Alarm status.Clean → SaysBut (rules_of m) before (streams k h o w) after ended
 ends m before l k o f h w r new s t pending after got (Text n line) ended i g gives adds is = absurd adds
 ends m before l k o f h w r new s t pending after got (Long n) ended i g gives adds is = absurd adds
@@ -331,12 +332,12 @@ gets_nothing l r = record {
 
 -- a report in the making, as one of the first lines
 so_far : (m : SimpleModel) (before : Streams) (l o : Option (List ℕ)) (f w : ℕ) (r : Reading) (s : Session) (pending : List ℕ) →
-    IsReporting m before (streams l f o w) r s pending → SaysBut (rules_of m) before (streams l f o w) pending status.Memory
+    IsReportingAt m before (streams l f o w) r s pending → SaysBut (rules_of m) before (streams l f o w) pending status.Memory
 so_far m before l o f w r s pending i = stops_some m before l l o f f w r r s pending [] i (gets_nothing l r)
 
 -- the pending blocks were written
 pub flushed : (m : SimpleModel) (before : Streams) (l o p : Option (List ℕ)) (f w v : ℕ) (r : Reading) (s : Session) (pending after : List ℕ) (u : Unit) →
-    IsReporting m before (streams l f o w) r s pending → WriteSays o p w v pending after (Ok u) → IsReporting m before (streams l f p v) r s after
+    IsReportingAt m before (streams l f o w) r s pending → WriteSays o p w v pending after (Ok u) → IsReportingAt m before (streams l f p v) r s after
 flushed m before l o p f w v r s pending after u i wrote =
     let first = i.out_faults in
     let later = wrote.2 in
@@ -363,21 +364,29 @@ flushed m before l o p f w v r s pending after u i wrote =
     }
 
 pub flush_failed : (m : SimpleModel) (before : Streams) (l o p : Option (List ℕ)) (f w v : ℕ) (r : Reading) (s : Session) (pending after : List ℕ) (x : SinkFault) →
-    IsReporting m before (streams l f o w) r s pending → WriteSays o p w v pending after (Err x) → Says (rules_of m) before (streams l f p v) (write_status_for x)
+    IsReportingAt m before (streams l f o w) r s pending → WriteSays o p w v pending after (Err x) → Says (rules_of m) before (streams l f p v) (write_status_for x)
 flush_failed m before l o p f w v r s pending after x i wrote =
     write_failed (rules_of m) before l o p f w v pending after status.Memory x i.out_faults (so_far m before l o f w r s pending i) wrote
 
--- the reader gave one line
-pub gives_one : (m : SimpleModel) (at : Progress) (replies : List Verdict) (a b : Option (List ℕ)) (got old after bytes : List ℕ) (r new : Reading) (line : Line) (s t : Session) →
-    Gets a b r new got → Gives bytes r new line → AddsBlock m at replies line old after s t true → GivesOne r new
-gives_one m at replies a b got old after bytes r new (Text n line) s t g h x = record { given = h.1 ∙ h.0; most = g.most }
-gives_one m at replies a b got old after bytes r new (Long n) s t g h x = record { given = h.1 ∙ h.0; most = g.most }
-gives_one m at replies a b got old after bytes r new End s t g h x = absurd x
+given_after : (k n : Stored) (r q : Reading) → IsOf k r → IsOf n q → q.given ≡ r.given + 1 → q.most ≡ r.most → GivesOne k n
+given_after k n r q i j given most = record {
+  given = sym (ap (λ (z : Reading). z.given) j.same) ∙ given ∙ ap (λ (z : Reading). z.given + 1) i.same;
+  most = sym (ap (λ (z : Reading). z.most) j.same) ∙ most ∙ ap (λ (z : Reading). z.most) i.same;
+}
 
-pub flush_says : (m : SimpleModel) (before : Streams) (l o p : Option (List ℕ)) (f w v : ℕ) (r : Reading) (s : Session) (pending after : List ℕ) (x : Result Unit SinkFault) →
-    IsReporting m before (streams l f o w) r s pending → WriteSays o p w v pending after x → FlushSays m before (streams l f p v) r s after x
-flush_says m before l o p f w v r s pending after (Ok u) i wrote = flushed m before l o p f w v r s pending after u i wrote
-flush_says m before l o p f w v r s pending after (Err x) i wrote = flush_failed m before l o p f w v r s pending after x i wrote
+-- the reader gave one line
+pub gives_one : (m : SimpleModel) (at : Progress) (replies : List Verdict) (a b : Option (List ℕ)) (old after : List ℕ) (k n : Stored) (line : Line) (s t : Session) →
+    (r : Reading) × IsOf k r → Moves (GivesNext a b line) k n → AddsBlock m at replies line old after s t true → GivesOne k n
+gives_one m at replies a b old after k n (Text number line) s t r moves adds =
+    let x = moves r.0 r.1 in given_after k n r.0 x.0 r.1 x.1 (x.2.2.1 ∙ x.2.2.0) x.2.1.most
+gives_one m at replies a b old after k n (Long number) s t r moves adds =
+    let x = moves r.0 r.1 in given_after k n r.0 x.0 r.1 x.1 (x.2.2.1 ∙ x.2.2.0) x.2.1.most
+gives_one m at replies a b old after k n End s t r moves adds = absurd adds
+
+pub flush_says : (m : SimpleModel) (before : Streams) (l o p : Option (List ℕ)) (f w v : ℕ) (k : Stored) (s : Session) (pending after : List ℕ) (x : Result Unit SinkFault) →
+    IsReporting m before (streams l f o w) k s pending → WriteSays o p w v pending after x → FlushSays m before (streams l f p v) k s after x
+flush_says m before l o p f w v k s pending after (Ok u) i wrote = (i.0, i.1, flushed m before l o p f w v i.0 s pending after u i.2 wrote)
+flush_says m before l o p f w v k s pending after (Err x) i wrote = flush_failed m before l o p f w v i.0 s pending after x i.2 wrote
 
 -- ---- before the first line
 
@@ -388,10 +397,10 @@ Appends-nothing (Some xs) = sym (append-nil xs)
 no_both_true : true ≡ false → ⊥
 no_both_true n = cc
 
-pub started : (m : SimpleModel) (l o : Option (List ℕ)) (f w : ℕ) (r : Reading) (s : Session) (pending : List ℕ) →
+started_at : (m : SimpleModel) (l o : Option (List ℕ)) (f w : ℕ) (r : Reading) (s : Session) (pending : List ℕ) →
     r ≡ record { held = []; given = 0; taken = 0; most = 2 ^ 34; has_ended = false } → Stands s at_start [] → pending ≡ [] →
-    IsReporting m (streams l f o w) (streams l f o w) r s pending
-started m l o f w r s pending is stands none = record {
+    IsReportingAt m (streams l f o w) (streams l f o w) r s pending
+started_at m l o f w r s pending is stands none = record {
   read = [];
   consumed = Consumes-nothing l;
   counted = ap (λ z. z.taken) is;
@@ -414,6 +423,12 @@ started m l o f w r s pending is stands none = record {
     open_yet : r.has_ended ≡ true → ⊥
     open_yet e = no_both_true (sym e ∙ ap (λ z. z.has_ended) is)
 
+pub started : (m : SimpleModel) (l o : Option (List ℕ)) (f w : ℕ) (k : Stored) (s : Session) (pending : List ℕ) →
+    k ≡ record { reading = record { held = []; given = 0; taken = 0; most = 2 ^ 34; has_ended = false }; dropped = 0 } → Stands s at_start [] → pending ≡ [] →
+    IsReporting m (streams l f o w) (streams l f o w) k s pending
+started m l o f w k s pending is stands none =
+    (k.reading, is_own k (ap (λ (z : Stored). z.dropped) is), started_at m l o f w k.reading s pending (ap (λ (z : Stored). z.reading) is) stands none)
+
 -- nothing was read, and nothing written
 pub nothing_done : (m : SimpleModel) (l o : Option (List ℕ)) (f w : ℕ) → Says (rules_of m) (streams l f o w) (streams l f o w) status.Memory
 nothing_done m l o f w = (
@@ -431,7 +446,7 @@ nothing_done m l o f w = (
 )
 
 -- a turn of a session whose model is this one
-pub turn_by : (m n : SimpleModel) (before now next : Streams) (r q : Reading) (s t : Session) (old new : List ℕ) (x : Option Status) → n ≡ m →
+pub turn_by : (m n : SimpleModel) (before now next : Streams) (r q : Stored) (s t : Session) (old new : List ℕ) (x : Option Status) → n ≡ m →
     (IsReporting n before now r s old → TurnSays n before next q t new x) → IsReporting m before now r s old → TurnSays m before next q t new x
 turn_by m n before now next r q s t old new x e f i =
     subst (λ z. TurnSays z before next q t new x) e (f (subst (λ z. IsReporting z before now r s old) (sym e) i))

@@ -7,7 +7,7 @@ use Rattle.check_specs.specs.Models.{SimpleModel}
 use Rattle.check_specs.specs.Report.{Progress, at_start, IsJudged, rules_of}
 use Rattle.log_reader.specs.declared.line.Line.{Line}
 use Rattle.log_reader.specs.declared.line.Line.TheVariants.{Text, Long, End}
-use Rattle.log_reader.specs.Reading.{Reading, HasGiven}
+use Rattle.log_reader.specs.Reading.{Reading, Stored, IsOf, HasGiven}
 use Rattle.hamon_engine.specs.declared.session.Session.{Session}
 use Rattle.hamon_engine.specs.declared.status.Status.{Status}
 use Rattle.hamon_engine.specs.declared.status.Status.TheVariants as status
@@ -36,8 +36,8 @@ AddsBlock m at replies (Text number line) old new s t false = ⊥
 AddsBlock m at replies (Long number) old new s t false = ⊥
 AddsBlock m at replies End old new s t true = ⊥
 
--- the lines that the reader gave are reported: what was written and then what is pending
-pub record IsReporting (m : SimpleModel) (before now : Streams) (r : Reading) (s : Session) (pending : List ℕ) : Type 0 where
+-- the lines that were given are reported: what was written and then what is pending
+pub record IsReportingAt (m : SimpleModel) (before now : Streams) (r : Reading) (s : Session) (pending : List ℕ) : Type 0 where
   pub read : List ℕ
   pub consumed : Consumes before.log now.log read
   pub counted : r.taken ≡ length read
@@ -56,15 +56,19 @@ pub record IsReporting (m : SimpleModel) (before now : Streams) (r : Reading) (s
   pub log_faults : before.log_faults ≤ now.log_faults
   pub out_faults : before.out_faults ≤ now.out_faults
 
+-- the same of a reader, by a reading that it stands for
+abbrev pub IsReporting : SimpleModel → Streams → Streams → Stored → Session → List ℕ → Type 0
+IsReporting m before now reader s pending = (r : Reading) × IsOf reader r × IsReportingAt m before now r s pending
+
 -- what a turn says: one line more, or how the reading ended
-abbrev pub TurnSays : SimpleModel → Streams → Streams → Reading → Session → List ℕ → Option Status → Type 0
+abbrev pub TurnSays : SimpleModel → Streams → Streams → Stored → Session → List ℕ → Option Status → Type 0
 TurnSays m before now r s pending None = IsReporting m before now r s pending
 TurnSays m before now r s pending (Some status) = SaysBut (rules_of m) before now pending status
 
 -- the reader gave one line more, and may get as many bytes as before
-pub record GivesOne (old new : Reading) : Type 0 where
-  pub given : new.given ≡ old.given + 1
-  pub most : new.most ≡ old.most
+pub record GivesOne (old new : Stored) : Type 0 where
+  pub given : new.reading.given ≡ old.reading.given + 1
+  pub most : new.reading.most ≡ old.reading.most
 
 -- the status of a reading that failed
 abbrev pub status_for : ReadFault → Status
@@ -83,6 +87,6 @@ LinesSay m before now rest (Ok status) = SaysBut (rules_of m) before now rest st
 LinesSay m before now rest (Err fault) = Says (rules_of m) before now (write_status_for fault)
 
 -- after a flush the report goes on, or how a write failed
-abbrev pub FlushSays : SimpleModel → Streams → Streams → Reading → Session → List ℕ → Result Unit SinkFault → Type 0
+abbrev pub FlushSays : SimpleModel → Streams → Streams → Stored → Session → List ℕ → Result Unit SinkFault → Type 0
 FlushSays m before now r s pending (Ok u) = IsReporting m before now r s pending
 FlushSays m before now r s pending (Err fault) = Says (rules_of m) before now (write_status_for fault)

@@ -115,7 +115,7 @@ fn flush_before_read<O: Sink>(
     pending: &mut Vec<u8>,
     out: &mut O,
 ) -> Result<(), SinkFault>
-    ensures within { reader.now.given ≤ reader.now.most }
+    ensures within { reader.now.reading.given ≤ reader.now.reading.most }
     ensures says { (m : SimpleModel) (s : Session) (before : Streams) (log : Option (List ℕ)) (reads : ℕ)
         → IsReporting m before (record { log = log; log_faults = reads; out = O.taken out.old; out_faults = O.faults out.old }) reader.now s pending.old.items
         → FlushSays m before (record { log = log; log_faults = reads; out = O.taken out.new; out_faults = O.faults out.new }) reader.now s pending.new.items result }

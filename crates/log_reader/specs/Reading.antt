@@ -7,13 +7,43 @@ use Rattle.log_reader.specs.declared.line.Line.TheVariants.{Text, Long, End}
 use Rattle.log_reader.specs.declared.reader.ReadFault.{ReadFault}
 use Rattle.log_reader.specs.declared.reader.ReadFault.TheVariants.{Failed, Limit, Memory}
 
--- what a reader is seen as: the bytes got and not given yet, how many lines it gave, how many bytes it got and may get, and whether the source gave its end
+-- the bytes got and not given yet, how many lines were given, how many bytes were got and may be, and whether the source gave its end
 pub record Reading : Type 0 where
   pub held : List ℕ
   pub given : ℕ
   pub taken : ℕ
   pub most : ℕ
   pub has_ended : Bool
+
+-- what a reader is seen as: a reading of the bytes that it stores, and how many bytes of the line before them it dropped
+pub record Stored : Type 0 where
+  pub reading : Reading
+  pub dropped : ℕ
+
+-- the same reading with these bytes before those held
+abbrev pub behind : List ℕ → Reading → Reading
+behind front r = record { held = front ++ r.held; given = r.given; taken = r.taken; most = r.most; has_ended = r.has_ended }
+
+-- the reading without the bytes held
+abbrev pub emptied : Reading → Reading
+emptied r = record { held = []; given = r.given; taken = r.taken; most = r.most; has_ended = r.has_ended }
+
+-- a line of so many bytes is a long one, whatever is dropped at its ends: a mark of three bytes and a carriage return
+abbrev pub surely_long : ℕ
+surely_long = 4101
+
+-- the reading that a reader stands for, with the bytes that it dropped: they hold no line feed, and belong to a line that is a long one
+-- whatever bytes they were
+pub record IsOf (s : Stored) (r : Reading) : Type 0 where
+  pub front : List ℕ
+  pub same : r ≡ behind front s.reading
+  pub size : length front ≡ s.dropped
+  pub no_feed : HasNoFeed front
+  pub long : (s.dropped ≡ 0) ⊎ (surely_long ≤ s.dropped)
+
+-- whatever reading the reader stood for, a call led from it to a reading that the reader then stands for
+abbrev pub Moves : (Reading → Reading → Type 0) → Stored → Stored → Type 0
+Moves Leads old new = (r : Reading) → IsOf old r → (s : Reading) × IsOf new s × Leads r s
 
 -- these bytes were got from the source, whose bytes left are those before and after
 pub record Gets (before after : Option (List ℕ)) (old new : Reading) (got : List ℕ) : Type 0 where
@@ -76,6 +106,19 @@ pub record KeepsSource (old new : Reading) : Type 0 where
   pub taken : new.taken ≡ old.taken
   pub most : new.most ≡ old.most
   pub has_ended : new.has_ended ≡ old.has_ended
+
+-- what a call gave, of the bytes held
+pub record GivesFrom (old new : Reading) (line : Line) : Type 0 where
+  pub gives : Gives old.held old new line
+  pub keeps : KeepsSource old new
+
+-- what a call gave, of the bytes held before and got in it
+abbrev pub GivesNext : Option (List ℕ) → Option (List ℕ) → Line → Reading → Reading → Type 0
+GivesNext before after line old new = (got : List ℕ) × Gets before after old new got × Gives (old.held ++ got) old new line
+
+-- why a call gave none
+abbrev pub FailsNext : Option (List ℕ) → Option (List ℕ) → ReadFault → Reading → Reading → Type 0
+FailsNext before after fault old new = (got : List ℕ) × Gets before after old new got × Fails (old.held ++ got) old new fault
 
 -- what a call of the source adds
 pub record Fills (before after : Option (List ℕ)) (old new : Reading) : Type 0 where

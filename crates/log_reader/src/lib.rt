@@ -2,6 +2,7 @@
 #![tactic(auto)]
 
 mod fields;
+mod held;
 mod line;
 mod names;
 mod numbers;

@@ -1,5 +1,5 @@
 use super::*;
-use crate::reader::first_feed;
+use crate::held::first_feed;
 use frac128::Frac;
 use lha_model::Name;
 use std::alloc::{AllocError, Global};
@@ -248,7 +248,7 @@ fn lines_of_check(rt: HostRuntime) -> Result<(), Fail> {
     for (line, wanted) in headers {
         assert_eq!(rt; header_of(alloc, line)?.as_str(), wanted, "at {wanted}");
     }
-    let lines: [(&[u8], &str); 10] = [
+    let lines: [(&[u8], &str); 12] = [
         (b"0,0", "at 0 0"),
         (b"5", "at 5"),
         (b"3,", "at 3 _"),
@@ -259,6 +259,8 @@ fn lines_of_check(rt: HostRuntime) -> Result<(), Fail> {
         (b"z", "number"),
         (b"0,1 2", "number"),
         (b"0,\xFF", "text"),
+        (b"0,1000000000000000", "number"),
+        (b"0,999999999999999", "at 0 999999999999999"),
     ];
     for (line, wanted) in lines {
         assert_eq!(rt; cells_of(alloc, line)?.as_str(), wanted, "at {wanted}");
@@ -292,6 +294,10 @@ fn long_lines_and_names(rt: HostRuntime) -> Result<(), Fail> {
     for (start, byte, size, wanted) in rows {
         let line = filled(alloc, start, byte, size)?;
         assert_eq!(rt; row_of(alloc, &line)?.as_str(), wanted, "at {wanted}");
+    }
+    for (size, wanted) in [(4096, "at 0 0"), (4097, "long")] {
+        let line = filled(alloc, b"0,", b'0', size)?;
+        assert_eq!(rt; cells_of(alloc, &line)?.as_str(), wanted, "at {size}");
     }
     Ok(())
 }

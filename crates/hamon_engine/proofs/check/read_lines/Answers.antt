@@ -10,7 +10,7 @@ returns-in-Some g c before i =
     let flushed = c.in_default.ensures.says c.args.session.now.model c.lines.session before _ _ (c.lines.invariant.reporting before i) in (
       turn_by c.args.session.now.model c.lines.session.model before _ _ c.lines.reader c.read_line.new.reader c.lines.session c.read_line.new.session _
           c.read_line.new.pending.items (Some c.in-Some.status) c.lines.invariant.model (c.in-Some.ensures.says before _ _) flushed,
-      flushed.out_faults,
+      flushed.2.out_faults,
     )
 
 pub lines-smaller : goal.lines-smaller

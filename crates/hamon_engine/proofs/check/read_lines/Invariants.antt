@@ -18,4 +18,4 @@ invariant-lines g l = record {
 }
 
 abbrev pub decreases-lines : goal.decreases-lines
-decreases-lines g l = l.reader.most + 1 - l.reader.given
+decreases-lines g l = l.reader.reading.most + 1 - l.reader.reading.given

@@ -1,9 +1,10 @@
-use Rattle.std.proofs.Common.{refl}
-use Rattle.log_reader.proofs.FillLemmas.{Fills-nothing, Fills-kept}
+use Rattle.std.proofs.Common.{◌∙◌, ap}
+use Rattle.log_reader.specs.Reading.{Stored}
+use Rattle.log_reader.proofs.FillLemmas.{Fills-kept}
 use Rattle.log_reader.proofs.reader.LineReader.fill.Goals as goal
 
-pub returns-then-is_err-clause-fills : goal.returns-then-is_err-clause-fills
-returns-then-is_err-clause-fills g c = rw (c.reserve.ensures.items, c.self.view_is, c.drop_given.ensures) (Fills-nothing (g.L.Source.told c.args.source.now) c.args.self.now)
-
-pub returns-in-Err-clause-fills : goal.returns-in-Err-clause-fills
-returns-in-Err-clause-fills g c = rw (c.reserve.ensures.items, c.self.view_is, c.drop_given.ensures) (Fills-kept _ _ c.args.self.now _ c.in-Err.ensures.bytes refl)
+pub returns-in_err-count-clause-fills : goal.returns-in_err-count-clause-fills
+returns-in_err-count-clause-fills g c =
+    let i = c.self.inside in
+    Fills-kept _ _ c.args.self.now.reading _ c.in_err-count.ensures.nothing
+    (ap (λ held. record { held = held; given = i.given; taken = i.taken; most = i.most; has_ended = i.has_ended }) c.in_err-count.ensures.stays ∙ ap (λ (s : Stored). s.reading) c.self.view_is)
