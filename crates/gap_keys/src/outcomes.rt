@@ -1,0 +1,96 @@
+//! The states after a gap.
+
+ghost use Rattle.std.specs.Prelude.{◌≡◌};
+
+use crate::states::State;
+use std::marker::Model;
+
+/// A state after a gap, with the number of the state before it and the path from there.
+#[derive(Debug, Drop)]
+pub struct Item {
+    parent: usize,
+    path: Vec<u8>,
+    state: State,
+}
+
+impl Model for Item {
+    ghost use Rattle.run_specs.specs.Outcomes.{Item as ItemValue};
+
+    ghost Value = { ItemValue };
+
+    ghost view = { λ x. record { parent = x.parent; path = x.path.items; state = x.state } };
+}
+
+impl Item {
+    /// An item of these fields. Takes no memory.
+    pub fn new(parent: usize, path: Vec<u8>, state: State) -> Item
+        ensures { result ≡ record { parent = parent; path = path.items; state = state } }
+    {
+        Item {
+            parent,
+            path,
+            state,
+        }
+    }
+
+    /// The number of the state before the gap.
+    pub fn parent(&self) -> usize
+        ensures { result ≡ self.now.parent }
+    {
+        self.parent
+    }
+
+    /// The numbers of the transitions from there, in order.
+    pub fn path(&self) -> &[u8]
+        ensures { result.now ≡ self.now.path }
+    {
+        self.path.as_slice()
+    }
+
+    /// The state.
+    pub fn state(&self) -> &State
+        ensures { result.now ≡ self.now.state }
+    {
+        &self.state
+    }
+}
+
+/// The states after a gap, in the order of their parents and then of their paths.
+#[derive(Debug, Drop)]
+pub struct Next {
+    items: Vec<Item>,
+}
+
+impl Model for Next {
+    ghost use Rattle.std.specs.Prelude.{List};
+    ghost use Rattle.run_specs.specs.Outcomes.{Item as ItemValue};
+
+    ghost Value = { List ItemValue };
+
+    ghost view = { λ n. n.items.items };
+}
+
+impl Next {
+    /// The states of these items. Takes no memory.
+    pub fn new(items: Vec<Item>) -> Next
+        ensures { result ≡ items.items }
+    {
+        Next { items }
+    }
+
+    /// The items, the first one first.
+    pub fn items(&self) -> &[Item]
+        ensures { result.now ≡ self.now }
+    {
+        self.items.as_slice()
+    }
+}
+
+/// What is known of the states after a gap.
+#[derive(Debug, Drop)]
+pub enum Outcome {
+    /// These are the states.
+    Next(Next),
+    /// A number passed 128 bits, and the states are not known.
+    Overflow,
+}

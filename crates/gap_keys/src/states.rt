@@ -1,0 +1,119 @@
+//! The states where runs may stand.
+
+ghost use Rattle.std.specs.Prelude.{◌≡◌, IfOk, length, pos, All};
+ghost use Rattle.poly_specs.specs.Systems.{IsKeptSystem};
+
+use fm_eliminate::System;
+use std::alloc::{AllocError, Global};
+use std::marker::Model;
+
+/// Where a run may stand: a location, whether a run to here visited an unsafe one, and the rows of
+/// the values.
+///
+/// A contract sees the rows alone, and not for how many columns the system was made.
+#[derive(Debug, Drop)]
+pub struct State {
+    loc: u8,
+    seen_unsafe: bool,
+    rows: System,
+}
+
+impl Model for State {
+    ghost use Rattle.run_specs.specs.Keys.{State as StateValue};
+
+    ghost Value = { StateValue };
+
+    ghost view = { λ s. record { loc = s.loc; seen_unsafe = s.seen_unsafe; rows = s.rows.rows } };
+}
+
+impl State {
+    /// A state of these fields. Takes no memory.
+    pub fn new(loc: u8, seen_unsafe: bool, rows: System) -> State
+        ensures { result ≡ record { loc = loc; seen_unsafe = seen_unsafe; rows = rows.rows } }
+    {
+        State {
+            loc,
+            seen_unsafe,
+            rows,
+        }
+    }
+
+    /// The number of its location.
+    pub fn loc(&self) -> u8
+        ensures { result ≡ self.now.loc }
+    {
+        self.loc
+    }
+
+    /// Whether a run to here visited an unsafe location.
+    pub fn seen_unsafe(&self) -> bool
+        ensures { result ≡ self.now.seen_unsafe }
+    {
+        self.seen_unsafe
+    }
+
+    /// The rows, over the values.
+    pub fn rows(&self) -> &System
+        ensures value { result.now.rows ≡ self.now.rows }
+        ensures kept { IsKeptSystem result.now }
+    {
+        self.rows.width();
+        &self.rows
+    }
+
+    /// The same state.
+    pub fn copy(&self, alloc: Global) -> Result<State, AllocError>
+        ensures { IfOk result (λ s. s ≡ self.now) }
+    {
+        Ok(State::new(self.loc, self.seen_unsafe, self.rows.copy(alloc)?))
+    }
+}
+
+/// The states where runs may stand, in order.
+#[derive(Debug, Drop)]
+pub struct Belief {
+    states: Vec<State>,
+}
+
+impl Model for Belief {
+    ghost use Rattle.std.specs.Prelude.{List};
+    ghost use Rattle.run_specs.specs.Keys.{State as StateValue};
+
+    ghost Value = { List StateValue };
+
+    ghost view = { λ b. b.states.items };
+}
+
+impl Belief {
+    /// A belief of these states. Takes no memory.
+    pub fn new(states: Vec<State>) -> Belief
+        ensures { result ≡ states.items }
+    {
+        Belief { states }
+    }
+
+    /// The states, the first one first.
+    pub fn states(&self) -> &[State]
+        ensures { result.now ≡ self.now }
+    {
+        self.states.as_slice()
+    }
+
+    /// The same belief.
+    pub fn copy(&self, alloc: Global) -> Result<Belief, AllocError>
+        ensures { IfOk result (λ b. b ≡ self.now) }
+    {
+        let states = copied(alloc, self.states())?;
+        Ok(Belief::new(states))
+    }
+}
+
+fn copied(alloc: Global, states: &[State]) -> Result<Vec<State>, AllocError>
+    ensures { IfOk result (λ v. v.items ≡ states.now) }
+{
+    let mut copies = Vec::with_capacity(alloc, states.len())?;
+    for state in states {
+        copies.push_reserved(state.copy(alloc)?);
+    }
+    Ok(copies)
+}
