@@ -1,0 +1,4 @@
+pub mod GapBack
+pub mod GapExact
+pub mod SampleRows
+pub mod PlainLemmas
