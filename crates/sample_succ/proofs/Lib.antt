@@ -2,3 +2,4 @@ pub mod GapBack
 pub mod GapExact
 pub mod SampleRows
 pub mod PlainLemmas
+pub mod StartLemmas

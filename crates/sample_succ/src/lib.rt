@@ -2,7 +2,8 @@
 #![tactic(auto)]
 
 mod sample_rows;
-mod sample_stage;
+mod sampling;
+mod start;
 
 ghost use Rattle.std.specs.Prelude.{◌≡◌, ◌↔◌, ℕ, List, length, pos, ◌<ℤ◌};
 ghost use Rattle.poly_specs.specs.Rows.{Point, AllHold};
@@ -11,6 +12,9 @@ ghost use Rattle.run_specs.specs.Keys.{Key, IsKey, parent_at};
 ghost use Rattle.run_specs.specs.Outcomes.{MayTake, IsEnd};
 ghost use Rattle.run_specs.specs.Stages.{gap_rows};
 ghost use Rattle.run_specs.specs.WellFormed.{IsWellFormed};
+
+pub use sampling::sample_stage;
+pub use start::opening;
 
 /// The rows after the plain stages of a gap hold exactly at the ends of its gap runs.
 pub fn gap_stages_are_exact()

@@ -8,7 +8,7 @@ use Rattle.run_specs.specs.Automaton.{width}
 use Rattle.run_specs.specs.Stages.{seen_exactly}
 use Rattle.sample_succ.specs.Plain.{IsPlain}
 use Rattle.sample_succ.proofs.PlainLemmas.{free_left, plain_projection, one_column}
-use Rattle.sample_succ.proofs.sample_stage.without_column.Goals as goal
+use Rattle.sample_succ.proofs.sampling.without_column.Goals as goal
 
 pub returns-clause-free : goal.returns-clause-free
 returns-clause-free c =

@@ -14,7 +14,7 @@ use Rattle.run_specs.specs.Stages as stages
 use Rattle.run_specs.specs.Stages.{rows_after, seen_rows, seen_exactly, below}
 use Rattle.sample_succ.specs.Plain.{IsPlain}
 use Rattle.sample_succ.proofs.PlainLemmas.{projected_is, sums_pass, time_passes, values_pass, again_wide, again_free, zeros_last, free_both, stage_plain}
-use Rattle.sample_succ.proofs.sample_stage.sample_stage.Goals as goal
+use Rattle.sample_succ.proofs.sampling.sample_stage.Goals as goal
 
 pub returns-in_err-timeless-clause-passes : goal.returns-in_err-timeless-clause-passes
 returns-in_err-timeless-clause-passes c e =

@@ -5,7 +5,7 @@ use Rattle.poly_specs.specs.Rows.{AllWide}
 use Rattle.run_specs.specs.Automaton.{width}
 use Rattle.run_specs.specs.Stages.{seen_exactly}
 use Rattle.sample_succ.proofs.PlainLemmas.{first_passes, rest_passes, plain_step}
-use Rattle.sample_succ.proofs.sample_stage.+without_exact.Goals as goal
+use Rattle.sample_succ.proofs.sampling.+without_exact.Goals as goal
 
 pub returns-in_err-left-clause-passes : goal.returns-in_err-left-clause-passes
 returns-in_err-left-clause-passes t c e =

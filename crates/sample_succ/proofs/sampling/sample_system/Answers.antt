@@ -6,7 +6,7 @@ use Rattle.run_specs.specs.Automaton.{width}
 use Rattle.run_specs.specs.Stages as stages
 use Rattle.run_specs.specs.Stages.{seen_rows, below}
 use Rattle.sample_succ.proofs.PlainLemmas.{sums_pass, added_wide}
-use Rattle.sample_succ.proofs.sample_stage.sample_system.Goals as goal
+use Rattle.sample_succ.proofs.sampling.sample_system.Goals as goal
 
 pub returns-in_err-rows-clause-passes : goal.returns-in_err-rows-clause-passes
 returns-in_err-rows-clause-passes c e =

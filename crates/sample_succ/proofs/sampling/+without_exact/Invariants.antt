@@ -1,4 +1,4 @@
-use Rattle.sample_succ.proofs.sample_stage.+without_exact.Given as goal
+use Rattle.sample_succ.proofs.sampling.+without_exact.Given as goal
 
 abbrev pub decreases-without_exact : goal.decreases-without_exact
 decreases-without_exact l = l.n
