@@ -3,7 +3,7 @@ use Rattle.std.proofs.Common.{◌≡◌, ◌↔◌, ℕ, ◌+◌, ◌<◌, inl, 
 use Rattle.std.specs.Prelude.{IfSome, slice_index_or, All}
 use Rattle.std.proofs.lemmas.Bool.{cases_lt}
 use Rattle.std.proofs.lemmas.List.{get_or_past}
-use Rattle.run_specs.proofs.GapEnds.{IsGapCase, gap_there}
+use Rattle.run_specs.proofs.GapEnds.{IsGapCase, AllReached, gap_there}
 use Rattle.run_specs.proofs.RunEndLemmas.{all_same}
 use Rattle.run_specs.proofs.StageWidths.{end_within}
 use Rattle.poly_specs.specs.Fractions.{Fraction, IsFraction, zero_fraction, AtMost}
@@ -15,7 +15,7 @@ use Rattle.run_specs.specs.Logs.{cell_at}
 use Rattle.run_specs.specs.Outcomes.{MayTake, LeadsTo, IsEnd}
 use Rattle.run_specs.specs.Passes.{Fits}
 use Rattle.run_specs.specs.Runs.{GapRun, path_of, start_point, end_point}
-use Rattle.run_specs.specs.Stages.{gap_rows}
+use Rattle.run_specs.specs.Stages.{gap_stages, gap_rows}
 use Rattle.run_specs.specs.WellFormed.{IsWellFormed}
 use Rattle.sample_succ.proofs.GapBack.{GapBack, gap_back}
 
@@ -45,6 +45,23 @@ gap_case key i wf is h =
       sized = is.sized;
     }
 
+-- where a gap run leads, the gap's stages have points, and the rows after them hold
+gap_of_run : (key : Key) (i : ℕ) (path : List ℕ) (q : Point) → IsWellFormed key.automaton → IsKey key → MayTake key i path → (g : GapRun) → LeadsTo key i path q g →
+    AllReached (gap_stages key.automaton (parent_at key i).loc path key.gap key.seen (parent_at key i).rows)
+    × AllHold (gap_rows key.automaton (parent_at key i).loc path key.gap key.seen (parent_at key i).rows) (end_point g)
+gap_of_run key i path q wf is may g l =
+    let a : Automaton = key.automaton in
+    let p : State = parent_at key i in
+    let case = subst (λ n. IsGapCase a n key.seen p.rows) (sym l.same_loc) (gap_case key i wf is may.parent) in
+    let fits : Fits a g.start_loc (path_of g) = subst (λ n. Fits a n (path_of g)) (sym l.same_loc) (subst (Fits a p.loc) (sym l.along) may.fits) in
+    let there = gap_there a wf key.gap key.seen p.rows g case fits l.sized l.gap_run l.passes l.allowed in
+    subst (λ n. AllReached (gap_stages a n path key.gap key.seen p.rows) × AllHold (gap_rows a n path key.gap key.seen p.rows) (end_point g)) l.same_loc
+    (subst (λ w. AllReached (gap_stages a g.start_loc w key.gap key.seen p.rows) × AllHold (gap_rows a g.start_loc w key.gap key.seen p.rows) (end_point g)) l.along there)
+
+pub all_reached : (key : Key) (i : ℕ) (path : List ℕ) (q : Point) → IsWellFormed key.automaton → IsKey key → MayTake key i path → IsEnd key i path q →
+    AllReached (gap_stages key.automaton (parent_at key i).loc path key.gap key.seen (parent_at key i).rows)
+all_reached key i path q wf is may e = let (g, l) = e.reached in (gap_of_run key i path q wf is may g l).0
+
 pub gap_exact : (key : Key) (i : ℕ) (path : List ℕ) (q : Point) → IsWellFormed key.automaton → IsKey key → MayTake key i path → pos 0 <ℤ q.den → length q.num ≡ width key.automaton →
     AllHold (gap_rows key.automaton (parent_at key i).loc path key.gap key.seen (parent_at key i).rows) q ↔ IsEnd key i path q
 gap_exact key i path q wf is may hq lq =
@@ -60,16 +77,6 @@ gap_exact key i path q wf is may hq lq =
           }),
       λ e. (
           let (g, l) = e.reached in
-          let there = from_run g l in
+          let there = (gap_of_run key i path q wf is may g l).1 in
           all_same (gap_rows a p.loc path key.gap key.seen p.rows) (end_point g) q l.gap_run.positive hq l.same_point there),
     )
-  where
-    from_run : (g : GapRun) → LeadsTo key i path q g → AllHold (gap_rows key.automaton (parent_at key i).loc path key.gap key.seen (parent_at key i).rows) (end_point g)
-    from_run g l =
-        let a : Automaton = key.automaton in
-        let p : State = parent_at key i in
-        let case = subst (λ n. IsGapCase a n key.seen p.rows) (sym l.same_loc) (gap_case key i wf is may.parent) in
-        let fits : Fits a g.start_loc (path_of g) = subst (λ n. Fits a n (path_of g)) (sym l.same_loc) (subst (Fits a p.loc) (sym l.along) may.fits) in
-        let there = (gap_there a wf key.gap key.seen p.rows g case fits l.sized l.gap_run l.passes l.allowed).1 in
-        subst (λ n. AllHold (gap_rows a n path key.gap key.seen p.rows) (end_point g)) l.same_loc
-        (subst (λ w. AllHold (gap_rows a g.start_loc w key.gap key.seen p.rows) (end_point g)) l.along there)

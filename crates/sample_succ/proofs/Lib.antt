@@ -3,3 +3,5 @@ pub mod GapExact
 pub mod SampleRows
 pub mod PlainLemmas
 pub mod StartLemmas
+pub mod PathLemmas
+pub mod NodeLemmas

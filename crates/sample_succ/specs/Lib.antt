@@ -1,2 +1,4 @@
 pub mod Plain
 pub mod Starts
+pub mod Covers
+pub mod Walks

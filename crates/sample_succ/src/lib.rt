@@ -1,6 +1,8 @@
 //! From the states before a gap, and the sample after it, to the states after it.
 #![tactic(auto)]
 
+mod covering;
+mod finding;
 mod sample_rows;
 mod sampling;
 mod start;
