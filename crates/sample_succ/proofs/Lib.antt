@@ -5,3 +5,7 @@ pub mod PlainLemmas
 pub mod StartLemmas
 pub mod PathLemmas
 pub mod NodeLemmas
+pub mod ItemLemmas
+pub mod WalkLemmas
+pub mod StepLemmas
+pub mod VisitLemmas

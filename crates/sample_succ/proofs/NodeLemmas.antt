@@ -68,35 +68,27 @@ module _ (key : Key) (wf : IsWellFormed key.automaton) (is : IsKey key) where
 
   -- ---- the stages of the code's rows
 
-  pub leg_plain : (l : ℕ) (before plain s : List Row) → l < length key.automaton.locations → AllWide (width key.automaton + 1) before → AllWide (width key.automaton + 1) plain →
+  pub leg_plain : (l : ℕ) (before plain : List Row) → l < length key.automaton.locations → AllWide (width key.automaton + 1) before → AllWide (width key.automaton + 1) plain →
       IsPlain (width key.automaton + 1) before plain →
-      ((d : ℤ) (end : List ℤ) → pos 0 <ℤ d → length end ≡ width key.automaton + 1 → AllHold s (over d end) ↔ SomeLegEnds key.automaton l before (over d end)) →
-      IsAmong s (rows_after (leg_stage key.automaton l before)) → IsPlain (width key.automaton + 1) s (rows_after (leg_stage key.automaton l plain))
-  leg_plain l before plain s hl wb wp h exact among = record {
-    among = λ r i. leg_more a l before plain h.among r (among r i);
-    same = λ p hp lp.
-        let mid = leg_ends a l before p.den p.num (location_is a wf l hl) wb hp lp in
-        let e = exact p.den p.num hp lp in (
-          λ g. leg_within a wf l before plain hl wb wp (λ q hq lq. (h.same q hq lq).0) p hp lp (mid.1 (e.0 g)),
-          λ g. e.1 (mid.0 (leg_within a wf l plain before hl wp wb (λ q hq lq. (h.same q hq lq).1) p hp lp g)),
-        );
+      IsPlain (width key.automaton + 1) (rows_after (leg_stage key.automaton l before)) (rows_after (leg_stage key.automaton l plain))
+  leg_plain l before plain hl wb wp h = record {
+    among = leg_more a l before plain h.among;
+    same = λ p hp lp. (
+      leg_within a wf l before plain hl wb wp (λ q hq lq. (h.same q hq lq).0) p hp lp,
+      leg_within a wf l plain before hl wp wb (λ q hq lq. (h.same q hq lq).1) p hp lp,
+    );
   }
 
-  pub jump_plain : (e : ℕ) (before plain s : List Row) → e < length key.automaton.transitions → AllWide (width key.automaton + 1) before → AllWide (width key.automaton + 1) plain →
+  pub jump_plain : (e : ℕ) (before plain : List Row) → e < length key.automaton.transitions → AllWide (width key.automaton + 1) before → AllWide (width key.automaton + 1) plain →
       IsPlain (width key.automaton + 1) before plain →
-      ((d : ℤ) (end : List ℤ) → pos 0 <ℤ d → length end ≡ width key.automaton + 1 → AllHold s (over d end) ↔ SomeJumpEnds key.automaton e before (over d end)) →
-      IsAmong s (rows_after (jump_stage key.automaton e before)) → IsPlain (width key.automaton + 1) s (rows_after (jump_stage key.automaton e plain))
-  jump_plain e before plain s he wb wp h exact among =
-      let t = transition_is a wf e he in
-      record {
-        among = λ r i. jump_more a e before plain h.among r (among r i);
-        same = λ p hp lp.
-            let mid = jump_ends a e before p.den p.num t.relation (location_is a wf (transition_at a e).target t.target).invariant wb hp lp in
-            let f = exact p.den p.num hp lp in (
-              λ g. jump_within a wf e before plain he wb wp (λ q hq lq. (h.same q hq lq).0) p hp lp (mid.1 (f.0 g)),
-              λ g. f.1 (mid.0 (jump_within a wf e plain before he wp wb (λ q hq lq. (h.same q hq lq).1) p hp lp g)),
-            );
-      }
+      IsPlain (width key.automaton + 1) (rows_after (jump_stage key.automaton e before)) (rows_after (jump_stage key.automaton e plain))
+  jump_plain e before plain he wb wp h = record {
+    among = jump_more a e before plain h.among;
+    same = λ p hp lp. (
+      jump_within a wf e before plain he wb wp (λ q hq lq. (h.same q hq lq).0) p hp lp,
+      jump_within a wf e plain before he wp wb (λ q hq lq. (h.same q hq lq).1) p hp lp,
+    );
+  }
 
   sample_from : (before plain : List Row) (p : Point) → ((q : Point) → pos 0 <ℤ q.den → length q.num ≡ width key.automaton + 1 → AllHold before q → AllHold plain q) →
       SomeSampleEnds key.automaton key.gap key.seen before p → SomeSampleEnds key.automaton key.gap key.seen plain p

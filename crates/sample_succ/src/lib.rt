@@ -6,6 +6,7 @@ mod finding;
 mod sample_rows;
 mod sampling;
 mod start;
+mod stepping;
 
 ghost use Rattle.std.specs.Prelude.{◌≡◌, ◌↔◌, ℕ, List, length, pos, ◌<ℤ◌};
 ghost use Rattle.poly_specs.specs.Rows.{Point, AllHold};

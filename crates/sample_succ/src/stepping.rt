@@ -1,0 +1,81 @@
+//! The parts of a gap, by a key: a leg, a jump and the sample, each with what is left after it.
+
+ghost use Rattle.std.specs.Prelude.{◌≡◌, ◌+◌, ◌<◌, Err, IfOk, length};
+ghost use Rattle.poly_specs.specs.Bits.{SomePasses};
+ghost use Rattle.poly_specs.specs.Lists.{IsAmong};
+ghost use Rattle.run_specs.specs.Automaton.{width};
+ghost use Rattle.run_specs.specs.Keys.{IsKey};
+ghost use Rattle.run_specs.specs.Stages.{Stage, rows_after, stage_numbers, leg_stage, jump_stage};
+ghost use Rattle.run_specs.specs.Stages as stages;
+ghost use Rattle.run_specs.specs.WellFormed.{IsWellFormed};
+ghost use Rattle.sample_succ.specs.Plain.{IsPlain, IsLeft};
+
+use crate::sampling::sample_stage;
+use fm_eliminate::{RowFault, System};
+use gap_keys::Key;
+use jump_succ::jump_succ;
+use lha_model::Automaton;
+use poly_decide::is_empty;
+use std::alloc::Global;
+use time_succ::time_succ;
+
+/// The automaton of a key.
+pub fn automaton_of(key: &Key) -> &Automaton
+    ensures value { result.now ≡ key.now.automaton }
+    ensures limits { IsWellFormed key.now.automaton }
+    ensures kept { IsKey key.now }
+{
+    let a: &Automaton = key.automaton();
+    a.vars();
+    a
+}
+
+/// The system, unless it has no point.
+fn if_any(alloc: Global, system: System) -> Result<Option<System>, RowFault>
+    ensures ok { IfOk result (λ o. (s : Stage) → system.width ≡ s.left → IsPlain s.left system.rows (rows_after s) → IsLeft s o) }
+    ensures passes { result ≡ Err RowFault.Passes → (s : Stage) → system.width ≡ s.left → IsAmong system.rows (rows_after s) → SomePasses (stage_numbers s) }
+{
+    if is_empty(alloc, &system)? {
+        return Ok(None);
+    }
+    Ok(Some(system))
+}
+
+/// Where legs in this location end that start in a state.
+pub fn leg(alloc: Global, key: &Key, loc: u8, before: &System) -> Result<Option<System>, RowFault>
+    requires known { loc < length key.now.automaton.locations }
+    requires wide { before.now.width ≡ width key.now.automaton + 1 }
+    ensures ok { IfOk result (λ o. IsLeft (leg_stage key.now.automaton loc before.now.rows) o) }
+    ensures passes { result ≡ Err RowFault.Passes → SomePasses (stage_numbers (leg_stage key.now.automaton loc before.now.rows)) }
+{
+    before.width();
+    let a = automaton_of(key);
+    let system = time_succ(alloc, a, loc, before)?;
+    if_any(alloc, system)
+}
+
+/// Where jumps by this transition end that start in a state.
+pub fn jump(alloc: Global, key: &Key, e: u8, before: &System) -> Result<Option<System>, RowFault>
+    requires known { e < length key.now.automaton.transitions }
+    requires wide { before.now.width ≡ width key.now.automaton + 1 }
+    ensures ok { IfOk result (λ o. IsLeft (jump_stage key.now.automaton e before.now.rows) o) }
+    ensures passes { result ≡ Err RowFault.Passes → SomePasses (stage_numbers (jump_stage key.now.automaton e before.now.rows)) }
+{
+    before.width();
+    let a = automaton_of(key);
+    let system = jump_succ(alloc, a, e, before)?;
+    if_any(alloc, system)
+}
+
+/// Where the sample is passed from a state, when the gap's length has elapsed.
+pub fn sample(alloc: Global, key: &Key, before: &System) -> Result<Option<System>, RowFault>
+    requires wide { before.now.width ≡ width key.now.automaton + 1 }
+    ensures ok { IfOk result (λ o. IsLeft (stages.sample_stage key.now.automaton key.now.gap key.now.seen before.now.rows) o) }
+    ensures passes { result ≡ Err RowFault.Passes → SomePasses (stage_numbers (stages.sample_stage key.now.automaton key.now.gap key.now.seen before.now.rows)) }
+{
+    let a = automaton_of(key);
+    let gap = key.gap();
+    let seen = key.seen();
+    let system = sample_stage(alloc, a, gap, seen, before)?;
+    if_any(alloc, system)
+}
