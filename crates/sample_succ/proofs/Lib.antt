@@ -9,3 +9,4 @@ pub mod ItemLemmas
 pub mod WalkLemmas
 pub mod StepLemmas
 pub mod VisitLemmas
+pub mod GapStartLemmas

@@ -1,5 +1,5 @@
 -- At a node: the leg, the sample, and the jumps from there.
-use Rattle.std.proofs.Common.{◌≡◌, ◌↔◌, ℕ, ◌+◌, ◌<◌, ◌≤◌, Bool, ◌||◌, List, [], ◌∷◌, ◌++◌, length, length-append, refl, sym, ◌∙◌, ap, subst, arith}
+use Rattle.std.proofs.Common.{◌≡◌, ◌↔◌, inl, inr, ℕ, ◌+◌, ◌<◌, ◌≤◌, Bool, ◌||◌, List, [], ◌∷◌, ◌++◌, length, length-append, refl, sym, ◌∙◌, ap, subst, arith}
 use Rattle.std.specs.Prelude.{All, Any, Option, Some, None}
 use Rattle.poly_specs.specs.Bits.{SomePasses}
 use Rattle.poly_specs.specs.Rows.{Row, AllWide, HasPoint}
@@ -14,7 +14,7 @@ use Rattle.sample_succ.specs.declared.finding.Found.{Found}
 use Rattle.sample_succ.specs.declared.finding.Node.{Node}
 use Rattle.sample_succ.specs.Covers.{items_of, AreWide, DoesCover, DoesNotCover}
 use Rattle.sample_succ.specs.Plain.{IsPlain, IsLeft}
-use Rattle.sample_succ.specs.Walks.{plain_before, plain_after, IsNodeAt, IsNode, IsAfter, IsJumped, AreFound, AllBefore, WalkedTo}
+use Rattle.sample_succ.specs.Walks.{plain_before, plain_after, IsNodeAt, IsNode, IsAfter, IsJumped, AreFound, AllBefore, WalkedTo, IsPutNew}
 use Rattle.sample_succ.proofs.ItemLemmas.{none_walked, empty_walked, covered_walked, item_walked}
 use Rattle.sample_succ.proofs.NodeLemmas.{point_same, point_back, loc_within, plain_wide, after_wide, leg_plain, jump_plain, sample_plain, leg_fault, jump_fault, sample_fault, no_leg, no_jump, next_node}
 use Rattle.sample_succ.proofs.PathLemmas.{end_more, fits_more, fits_rest, unsafe_more}
@@ -82,6 +82,11 @@ module _ (key : Key) (wf : IsWellFormed key.automaton) (is : IsKey key) (n : Nod
           (subst (λ l. All (DoesNotCover (width key.automaton) l n.seen_unsafe t.rows) old) node.loc (subst (λ w. All (DoesNotCover w n.loc n.seen_unsafe t.rows) old) left.0 none)))
           (e ∙ ap (λ l. items_of old ++ record { parent = n.parent; path = n.path.items; state = record { loc = l; seen_unsafe = n.seen_unsafe; rows = t.rows } } ∷ []) node.loc
           ∙ ap (λ b. items_of old ++ record { parent = n.parent; path = n.path.items; state = record { loc = loc_after key n.parent n.path.items; seen_unsafe = b; rows = t.rows } } ∷ []) node.mark)
+
+      pub put_walked : (old new : List Found) → AreWide (width key.automaton) old → AreFound key (items_of old) → AllBefore (items_of old) n.parent n.path.items → IsPutNew n t old new →
+          WalkedTo key n.parent n.path.items 0 old new
+      put_walked old new each found before (inl (some, same)) = subst (WalkedTo key n.parent n.path.items 0 old) (sym same) (sample_covered old each found before some)
+      put_walked old new each found before (inr put) = sample_item old new (put.wide (width key.automaton) left.0 each) found before put.not_covered put.items
 
     -- ---- a jump
 

@@ -1,6 +1,6 @@
 -- The walk over the paths from a parent, and from all parents.
-use Rattle.std.proofs.Common.{◌≡◌, ◌⊎◌, inl, inr, ℕ, zero, suc, ◌+◌, ◌<◌, ◌≤◌, List, [], ◌∷◌, ◌++◌, length, length-append, append_assoc, refl, sym, ◌∙◌, ap, subst, arith, pos}
-use Rattle.std.specs.Prelude.{All}
+use Rattle.std.proofs.Common.{◌≡◌, ◌⊎◌, inl, inr, ℕ, zero, suc, ◌+◌, ◌-◌, ◌<◌, ◌≤◌, List, [], ◌∷◌, ◌++◌, length, length-append, append_assoc, refl, sym, ◌∙◌, ap, subst, arith, pos}
+use Rattle.std.specs.Prelude.{All, Some}
 use Rattle.std.proofs.lemmas.Bool.{cases_lt}
 use Rattle.std.proofs.lemmas.List.{append-nil}
 use Rattle.std.proofs.lemmas.List.Elements.{All-nil}
@@ -15,9 +15,10 @@ use Rattle.run_specs.specs.Passes.{Fits}
 use Rattle.run_specs.specs.Stages.{gap_start}
 use Rattle.run_specs.specs.WellFormed.{IsWellFormed}
 use Rattle.sample_succ.specs.declared.finding.Found.{Found}
+use Rattle.sample_succ.specs.declared.finding.Node.{Node}
 use Rattle.sample_succ.specs.Covers.{items_of, AreWide}
 use Rattle.sample_succ.specs.Plain.{IsPlain}
-use Rattle.sample_succ.specs.Walks.{AllBefore, AreFound, BeginsBelow, IsUnder, WalkedTo, WalkedFrom, IsNodeAt}
+use Rattle.sample_succ.specs.Walks.{AllBefore, AreFound, BeginsBelow, IsUnder, WalkedTo, WalkedFrom, IsNodeAt, IsNode, IsJumped}
 use Rattle.sample_succ.proofs.ItemLemmas.{accounted_more}
 use Rattle.sample_succ.proofs.PathLemmas.{before_trans, before_longer, before_next, before_parent, fits_rest}
 
@@ -123,6 +124,21 @@ module _ (key : Key) where
       go : In x (items_of old) ⊎ ((x.parent ≡ i) × IsUnder path e x.path) → IsBefore x.parent x.path i (path ++ e ∷ [])
       go (inl k) = before_trans x.parent i i x.path path (path ++ e ∷ []) (before x k) (before_longer i path e [])
       go (inr (p, (other, s, b))) = under other b p s
+
+  -- ---- the node that a jump leads to
+
+  module _ (n x : Node) (e : ℕ) (next : IsJumped key n.parent n.path.items e (Some x)) where
+    pub next_walked : (old mid new : List Found) → WalkedTo key n.parent n.path.items e old mid → WalkedTo key x.parent x.path.items (length key.automaton.transitions) mid new →
+        WalkedTo key n.parent n.path.items (e + 1) old new
+    next_walked old mid new w v = walked_into n.parent n.path.items e old mid new w
+        (subst (λ p. WalkedTo key n.parent p (length key.automaton.transitions) mid new) next.1 (subst (λ i. WalkedTo key i x.path.items (length key.automaton.transitions) mid new) next.0 v))
+
+    pub next_before : (old mid : List Found) → AllBefore (items_of old) n.parent n.path.items → WalkedTo key n.parent n.path.items e old mid → AllBefore (items_of mid) x.parent x.path.items
+    next_before old mid before w =
+        subst (λ i. AllBefore (items_of mid) i x.path.items) (sym next.0) (subst (AllBefore (items_of mid) n.parent) (sym next.1) (still_before n.parent n.path.items e old mid before w))
+
+    pub next_left : (left : ℕ) → length n.path.items + left ≡ key.jumps → (left ≡ 0 → ⊥) → length x.path.items + (left - 1) ≡ key.jumps
+    next_left left h some = let l = ap length next.1 in let m = length-append n.path.items (e ∷ []) in omega (arith, l, m, h, some)
 
   -- ---- parent by parent
 

@@ -1,5 +1,5 @@
 -- The walk over the paths from a parent: what holds on the way, and what was found.
-use Rattle.std.specs.Prelude.{◌≡◌, ◌⊎◌, ℕ, ◌+◌, ◌<◌, Bool, List, [], ◌∷◌, ◌++◌, length, Option, Some, None, ⊤}
+use Rattle.std.specs.Prelude.{◌≡◌, ◌⊎◌, ℕ, ◌+◌, ◌<◌, Bool, List, [], ◌∷◌, ◌++◌, length, Option, Some, None, All, Any, ⊤}
 use Rattle.poly_specs.specs.Lists.{In}
 use Rattle.poly_specs.specs.Rows.{Point, Row, HasPoint}
 use Rattle.poly_specs.specs.Systems.{System}
@@ -9,7 +9,7 @@ use Rattle.run_specs.specs.Outcomes.{Item, MayTake, loc_after, mark_after, IsBef
 use Rattle.run_specs.specs.Stages.{Stage, rows_after, gap_start, leg_stage, jump_stage}
 use Rattle.sample_succ.specs.declared.finding.Found.{Found}
 use Rattle.sample_succ.specs.declared.finding.Node.{Node}
-use Rattle.sample_succ.specs.Covers.{items_of, AreWide}
+use Rattle.sample_succ.specs.Covers.{items_of, AreWide, DoesCover, DoesNotCover}
 use Rattle.sample_succ.specs.Plain.{IsPlain}
 
 -- ---- the plain rows on the way
@@ -86,6 +86,12 @@ BeginsBelow n (e ∷ path) = e < n
 abbrev pub IsUnder : List ℕ → ℕ → List ℕ → Type 0
 IsUnder path n longer = (other : List ℕ) × (longer ≡ path ++ other) × BeginsBelow n other
 
+-- the rows of a node were put last, and none of the states covers them
+pub record IsPut (n : Node) (rows : System) (old new : List Found) : Type 0 where
+  pub items : items_of new ≡ items_of old ++ record { parent = n.parent; path = n.path.items; state = record { loc = n.loc; seen_unsafe = n.seen_unsafe; rows = rows.rows } } ∷ []
+  pub wide : (m : ℕ) → rows.width ≡ m → AreWide m old → AreWide m new
+  pub not_covered : All (DoesNotCover rows.width n.loc n.seen_unsafe rows.rows) old
+
 -- the path, and those that extend it with a transition before number n, were walked
 pub record WalkedTo (key : Key) (i : ℕ) (path : List ℕ) (n : ℕ) (old new : List Found) : Type 0 where
   pub wide : AreWide (width key.automaton) new
@@ -93,6 +99,12 @@ pub record WalkedTo (key : Key) (i : ℕ) (path : List ℕ) (n : ℕ) (old new :
   pub grown : (x : Item) → In x (items_of old) → In x (items_of new)
   pub from : (x : Item) → In x (items_of new) → In x (items_of old) ⊎ ((x.parent ≡ i) × IsUnder path n x.path)
   pub accounted : (other : List ℕ) → BeginsBelow n other → MayTake key i (path ++ other) → IsAccounted key (items_of new) i (path ++ other)
+
+-- the rows of a node were put last, or nothing was done and one of the states covers them
+abbrev pub IsPutNew : Node → System → List Found → List Found → Type 0
+IsPutNew n rows old new =
+    (Any (DoesCover rows.width n.loc n.seen_unsafe rows.rows) old × (new ≡ old))
+    ⊎ IsPut n rows old new
 
 -- after the last leg: where it has no point, no longer path is left to walk
 abbrev pub IsVisited : Key → ℕ → List ℕ → List Found → List Found → Option System → Type 0

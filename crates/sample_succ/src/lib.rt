@@ -3,6 +3,8 @@
 
 mod covering;
 mod finding;
+mod gap_starts;
+mod gap_walk;
 mod sample_rows;
 mod sampling;
 mod start;
