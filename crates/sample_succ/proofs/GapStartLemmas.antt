@@ -6,8 +6,14 @@ use Rattle.poly_specs.specs.Bits.{FitsBits}
 use Rattle.poly_specs.specs.Elimination.{gcd, divisor, divided}
 use Rattle.poly_specs.specs.KeptRows.{IsKeptRow}
 use Rattle.poly_specs.specs.Rows.{Row, with_coef}
+use Rattle.poly_specs.specs.Systems.{System}
+use Rattle.run_specs.specs.Automaton.{width, location_at}
+use Rattle.run_specs.specs.Keys.{Key, parent_at}
+use Rattle.run_specs.specs.Outcomes.{loc_after, mark_after}
+use Rattle.sample_succ.specs.Walks.{IsNodeAt}
+use Rattle.sample_succ.proofs.WalkLemmas.{root_node}
 use Rattle.run_specs.proofs.StageLemmas.{length-zeros}
-use Rattle.run_specs.specs.Stages.{zeros, row_of}
+use Rattle.run_specs.specs.Stages.{zeros, row_of, gap_start}
 use Rattle.stage_rows.proofs.RespellingLemmas.{Sizes, parts, respelled, both, left, of_zeros, of_taken}
 
 pub timed_kept : (m : ℕ) (r : Row) → m ≤ 6 → IsKeptRow r → (x y z : List ℤ) → length r.coef ≡ m → x ≡ [] → y ≡ take m r.coef → z ≡ pos 0 ∷ [] → IsKeptRow (with_coef (x ++ y ++ z) r)
@@ -65,3 +71,18 @@ no_more_row m ns r = one_row (pos 1) m ns r one_kept
 
 pub no_less_row : (m : ℕ) (ns : List ℤ) (r : Row) → m ≤ 6 → ns ≡ set (zeros (m + 1)) m (negsuc 0) → r ≡ divided (record { coef = ns; cst = pos 0; strict = false }) → r ≡ row_of (m + 1) m (negsuc 0) (pos 0)
 no_less_row m ns r = one_row (negsuc 0) m ns r minus_kept
+
+pub start_is : (m n : ℕ) (old rows all : List Row) (s : System) → n ≡ m → old ≡ rows → all ≡ gap_start n old → s ≡ record { width = n + 1; rows = all } →
+    s ≡ record { width = m + 1; rows = gap_start m rows }
+start_is m n old rows all s e f g h =
+    h ∙ ap (λ rs. record { width = n + 1; rows = rs }) (g ∙ ap (gap_start n) f) ∙ ap (λ k. record { width = k + 1; rows = gap_start k rows }) e
+
+pub node_is : (key : Key) (i : ℕ) (path : List ℕ) (loc : ℕ) (mark : Bool) (before : System) → i < length key.belief → path ≡ [] → loc ≡ (parent_at key i).loc →
+    mark ≡ ((parent_at key i).seen_unsafe || (location_at key.automaton loc).is_unsafe) →
+    before ≡ record { width = width key.automaton + 1; rows = gap_start (width key.automaton) (parent_at key i).rows } →
+    (loc ≡ loc_after key i path) × (mark ≡ mark_after key i path) × IsNodeAt key i path before
+node_is key i path loc mark before h e f g k = (
+  f ∙ ap (loc_after key i) (sym e),
+  g ∙ ap (λ l. (parent_at key i).seen_unsafe || (location_at key.automaton l).is_unsafe) f ∙ ap (mark_after key i) (sym e),
+  subst (λ p. IsNodeAt key i p before) (sym e) (root_node key i before h k),
+)

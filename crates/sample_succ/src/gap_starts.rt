@@ -1,6 +1,6 @@
 //! The start of a gap: a state before it, when no time has elapsed.
 
-ghost use Rattle.std.specs.Prelude.{◌≡◌, ◌+◌, ◌<◌, ◌≤◌, ◌++◌, [], ◌∷◌, IfOk, OnOk, length, map, take, pos, negsuc};
+ghost use Rattle.std.specs.Prelude.{◌≡◌, ◌+◌, ◌<◌, ◌≤◌, ◌++◌, ◌||◌, [], ◌∷◌, IfOk, OnOk, length, map, take, pos, negsuc};
 ghost use Rattle.poly_specs.specs.Rows.{AllWide, with_coef};
 ghost use Rattle.run_specs.specs.Automaton.{width};
 ghost use Rattle.run_specs.specs.Keys.{IsState, parent_at};
@@ -45,12 +45,7 @@ fn no_less(alloc: Global, m: usize) -> Row
 }
 
 /// Adds the rows, each with a column for the elapsed time.
-fn add_timed(
-    alloc: Global,
-    all: &mut Vec<Row>,
-    rows: &[Row],
-    m: usize,
-) -> Result<(), AllocError>
+fn add_timed(alloc: Global, all: &mut Vec<Row>, rows: &[Row], m: usize) -> Result<(), AllocError>
     requires few { m ≤ 6 }
     requires wide { AllWide m rows.now }
     ensures { OnOk result (all.new.items ≡ all.old.items ++ map (λ r. with_coef (take m r.coef ++ pos 0 ∷ []) r) rows.now) }
@@ -88,10 +83,19 @@ pub fn start_system(alloc: Global, key: &Key, parent: usize) -> Result<System, A
     requires known { parent < length key.now.belief }
     ensures { IfOk result (λ s. s ≡ record { width = width key.now.automaton + 1; rows = gap_start (width key.now.automaton) (parent_at key.now parent).rows }) }
 {
-    let m = automaton_of(key).vars().len();
-    let before = parent_of(key, parent).rows();
-    let rows = start_rows(alloc, before.rows(), m)?;
+    let a = automaton_of(key);
+    let m = a.vars().len();
+    let state = parent_of(key, parent);
+    let before = state.rows();
+    let old = before.rows();
+    let rows = start_rows(alloc, old, m)?;
     Ok(of_rows(m + 1, rows))
+}
+
+fn either(first: bool, second: bool) -> bool
+    ensures { result ≡ (first || second) }
+{
+    first || second
 }
 
 /// The node where a walk from this state begins.
@@ -104,10 +108,11 @@ pub fn start_node(alloc: Global, key: &Key, parent: usize) -> Result<Node, Alloc
     let before = start_system(alloc, key, parent)?;
     let state = parent_of(key, parent);
     let loc = state.loc();
-    let seen_unsafe = state.seen_unsafe() || is_unsafe(key, loc);
+    let seen_unsafe = either(state.seen_unsafe(), is_unsafe(key, loc));
+    let path = Vec::new(alloc);
     Ok(Node {
         parent,
-        path: Vec::new(alloc),
+        path,
         loc,
         seen_unsafe,
         before,

@@ -25,12 +25,7 @@ fn copied(alloc: Global, path: &[u8]) -> Result<Vec<u8>, AllocError>
 }
 
 /// Puts the node's path with these rows last.
-fn put(
-    alloc: Global,
-    found: &mut Vec<Found>,
-    node: &Node,
-    rows: System,
-) -> Result<(), AllocError>
+fn put(alloc: Global, found: &mut Vec<Found>, node: &Node, rows: System) -> Result<(), AllocError>
     ensures items { OnOk result (items_of found.new.items ≡ items_of found.old.items
         ++ record { parent = node.now.parent; path = node.now.path.items; state = record { loc = node.now.loc; seen_unsafe = node.now.seen_unsafe; rows = rows.rows } } ∷ []) }
     ensures wide { OnOk result ((m : ℕ) → rows.width ≡ m → AreWide m found.old.items → AreWide m found.new.items) }

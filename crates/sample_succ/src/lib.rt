@@ -4,6 +4,7 @@
 mod covering;
 mod finding;
 mod gap_starts;
+mod gap_step;
 mod gap_walk;
 mod sample_rows;
 mod sampling;
@@ -18,6 +19,8 @@ ghost use Rattle.run_specs.specs.Outcomes.{MayTake, IsEnd};
 ghost use Rattle.run_specs.specs.Stages.{gap_rows};
 ghost use Rattle.run_specs.specs.WellFormed.{IsWellFormed};
 
+pub use gap_keys::{Belief, Item, Key, Next, Outcome, State};
+pub use gap_step::step;
 pub use sampling::sample_stage;
 pub use start::opening;
 

@@ -20,14 +20,22 @@ walk-requires t c =
     let n = c.args.node.now in
     let next = subst (IsJumped key n.parent n.path.items c.loop-e.e) c.in-Some-next.is c.in_ok-next.ensures.ok in
     let d = c.decreases in
-    let some = c.if-left-eq0.false in
-    (omega (arith, d, some), (
-      next.2,
-      (next_left key n c.in-Some-next.next c.loop-e.e next c.args.left c.requires.left some,
-      (c.loop-e.invariant.wide,
-      (c.loop-e.invariant.found,
-      next_before key n c.in-Some-next.next c.loop-e.e next c.args.found.now.items c.loop-e.found.items c.requires.before c.loop-e.invariant))),
-    ))
+    let some = c.if-left-eq0.false in (
+      omega (arith, d, some),
+      (
+        next.2,
+        (
+          next_left key n c.in-Some-next.next c.loop-e.e next c.args.left c.requires.left some,
+          (
+            c.loop-e.invariant.wide,
+            (
+              c.loop-e.invariant.found,
+              next_before key n c.in-Some-next.next c.loop-e.e next c.args.found.now.items c.loop-e.found.items c.requires.before c.loop-e.invariant,
+            ),
+          ),
+        ),
+      ),
+    )
 
 pub loop-e-preserved : goal.loop-e-preserved
 loop-e-preserved t c =
