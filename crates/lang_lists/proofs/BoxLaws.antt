@@ -5,14 +5,15 @@ use Rattle.lang_specs.specs.declared.Kind.TheVariants.{Name, Number, In, Comma, 
 use Rattle.lang_specs.specs.Marks.{Mark, the, a_name, a_number}
 use Rattle.lang_specs.specs.Expressions.{minus_if}
 use Rattle.lang_tokens.specs.Kinds.{same_kind}
-use Rattle.lang_lists.specs.BoxMachine.{Num, Box, Place, at_var, at_in, at_open, at_lo, at_lo_number, at_comma, at_hi, at_hi_number, at_close, behind, num, in_box, made, boxes, IsNumValue, IsBoxValue}
+use Rattle.lang_lists.specs.BoxMachine.{Num, Box, Place, at_var, at_in, at_open, at_lo, at_lo_number, at_comma, at_hi, at_hi_number, at_close, behind, num, in_box, made, boxes, IsNumValue, IsBoxValue, no_limits}
 use Rattle.lang_specs.specs.Trees.{BoxTree}
 use Rattle.lang_specs.specs.Expressions.{IsNum, IsBox, signed}
 use Rattle.poly_specs.specs.Fractions.{Fraction}
 use Rattle.lang_tokens.specs.LineFaults.{AreLiterals}
 use Rattle.lang_tokens.proofs.LiteralMarks.{zero_text, nought, literal_value, literals_front, literals_rest}
 use Rattle.lang_tokens.proofs.Walks.{IsClean, is_the, is_a_name, is_a_number, if_some, if_either, walk, and_walk}
-use Rattle.lang_tokens.proofs.JoinedLaws.{Laws, Values}
+use Rattle.lang_tokens.proofs.LimitLemmas.{ArePlain}
+use Rattle.lang_tokens.proofs.JoinedLaws.{Laws, LimitLaws, Values, finish}
 
 abbrev pub spell_num : Num → List Mark
 spell_num n = minus_if n.neg ++ a_number n.text ∷ []
@@ -108,7 +109,7 @@ nothing_behind (at_hi v lo) b m e = absurd cc
 nothing_behind (at_hi_number v lo) b m e = absurd cc
 nothing_behind (at_close v lo hi) b m e = absurd cc
 
-finishes : (p : Place) → (more : List Mark) × (b : Box) × (said p ++ more ≡ spell_box b) × AreLiterals more
+finishes : (p : Place) → (more : List Mark) × (b : Box) × (said p ++ more ≡ spell_box b) × ArePlain more
 finishes at_var = (
   a_name (120 ∷ []) ∷ the In ∷ the Open ∷ nought ∷ the Comma ∷ nought ∷ the Close ∷ [],
   record { var = 120 ∷ []; lo = num false zero_text; hi = num false zero_text },
@@ -169,6 +170,17 @@ box_laws = record {
   no_comma = λ p b e. nothing_behind p b (the Comma) e;
   no_end = λ p b e. nothing_behind p b (the EndLine) e;
   finishes = finishes;
+}
+
+pub box_limits : LimitLaws boxes (finish boxes spell_box said box_laws) IsBoxValue no_limits
+box_limits = record {
+  at_start = λ which. refl;
+  inside = λ which done p q m e f. refl;
+  over_comma = λ which done p b e f. refl;
+  over_end = λ which done p b e f. refl;
+  finished = λ which done p f. refl;
+  ended_alike = λ which bs p f. refl;
+  at_end = λ which bs ys h. refl;
 }
 
 -- ---- values

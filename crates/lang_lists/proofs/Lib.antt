@@ -1,2 +1,1 @@
 pub mod BoxLaws
-pub mod NameLaws

@@ -7,6 +7,7 @@ use Rattle.lang_specs.specs.Trees.{BoxTree}
 use Rattle.lang_specs.specs.Expressions.{IsValue, signed}
 use Rattle.lang_tokens.specs.Kinds.{same_kind}
 use Rattle.lang_tokens.specs.Machines.{Machine}
+use Rattle.lang_tokens.specs.LineFaults.{Keeping}
 
 -- a literal, with its sign
 pub record Num : Type 0 where
@@ -65,7 +66,10 @@ made (at_close v lo hi) = None
 
 -- boxes have no limit of their own
 abbrev pub boxes : Machine Place Box
-boxes = record { start = at_var; next = in_box; made = made; passes = λ done p m. None }
+boxes = record { start = at_var; next = in_box; made = made; fits = λ which s. true }
+
+abbrev pub no_limits : {X : Type 0} → Keeping X
+no_limits which x = true
 
 -- what a box says as it is written
 abbrev pub IsNumValue : Num → Fraction → Type 0

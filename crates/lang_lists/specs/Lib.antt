@@ -1,4 +1,2 @@
-pub mod BoundMachine
 pub mod BoxMachine
-pub mod NameMachine
 pub mod Views

@@ -1,23 +1,24 @@
 //! Reads boxes, a token at a time.
 
-ghost use Rattle.std.specs.Prelude.{◌≡◌, ◌+◌, ◌<◌, ◌^◌, length, map, Some, None, Ok, Err, MatchOption, IfSome, IfOk, IfErr};
+ghost use Rattle.std.specs.Prelude.{◌≡◌, ◌+◌, ◌<◌, ◌^◌, if◌then◌else◌, length, map, Some, None, IfSome, IfOk, IfErr};
 ghost use Rattle.lang_specs.specs.Expressions.{AreJoined, IsBox};
-ghost use Rattle.lang_tokens.specs.LineFaults.{marks, AreLiterals, IsLine, IsLineFault};
-ghost use Rattle.lang_lists.specs.BoxMachine.{IsNumValue, IsBoxValue};
+ghost use Rattle.lang_tokens.specs.LineFaults.{marks, AreLiterals, IsLineWithin, IsLineFault};
+ghost use Rattle.lang_lists.specs.BoxMachine.{IsNumValue, IsBoxValue, no_limits};
 ghost use Rattle.std.specs.Option.{option_map};
 ghost use Rattle.lang_specs.specs.Marks.{mark};
 ghost use Rattle.lang_specs.specs.Tokens as tokens;
 ghost use Rattle.lang_tokens.specs.Places.{placed_of};
-ghost use Rattle.lang_tokens.specs.Machines.{AllValues, step, run, start_of};
+ghost use Rattle.lang_tokens.specs.Machines.{AllValues, listed, next, step, run, start_of};
 ghost use Rattle.lang_lists.specs.BoxMachine as machine;
 ghost use Rattle.lang_lists.specs.Views.{num_of, box_of, place_of, reading_of};
-ghost use Rattle.lang_tokens.specs.Gives.{GivesAt, Gives};
+ghost use Rattle.lang_tokens.specs.Gives.{Advances, GivesAt, Gives};
 
-use lang_tokens::{LineFault, is, passed_alone};
-use lang_tokens::{Token, line_tokens, literal_value, name_of};
-use lang_trees::BoxTree;
 use frac128::Frac;
-use lang_specs::{Kind, Which};
+use lang_specs::Kind;
+use lang_tokens::{
+    LineFault, Token, is, line_tokens, literal_value, name_of, passed_alone, unless,
+};
+use lang_trees::BoxTree;
 use std::alloc::Global;
 
 /// A literal, with its sign.
@@ -68,78 +69,65 @@ fn num<'a>(neg: bool, token: Token<'a>) -> NumText<'a>
     }
 }
 
+/// The place, where the token is what is wanted.
+fn when<'a>(wanted: bool, place: BoxPlace<'a>) -> Option<BoxPlace<'a>>
+    ensures { result ≡ (if wanted then Some place.entry else None) }
+{
+    if wanted { Some(place) } else { None }
+}
+
+/// The place behind a token where the lower number is wanted.
+#[tactic(auto, unfolding(crate::specs::BoxMachine::in_box))]
+fn at_lower<'a>(var: &'a [u8], token: Token<'a>) -> Option<BoxPlace<'a>>
+    ensures { option_map place_of result ≡ machine.in_box (machine.at_lo var.now) (mark (placed_of 0 token.entry)) }
+{
+    if is(token.kind, Kind::Minus) {
+        Some(BoxPlace::LoNumber(var))
+    } else {
+        let lo = num(false, token);
+        when(is(token.kind, Kind::Number), BoxPlace::Comma(var, lo))
+    }
+}
+
+/// The place behind a token where the upper number is wanted.
+#[tactic(auto, unfolding(crate::specs::BoxMachine::in_box))]
+fn at_upper<'a>(var: &'a [u8], lo: NumText<'a>, token: Token<'a>) -> Option<BoxPlace<'a>>
+    ensures { option_map place_of result ≡ machine.in_box (machine.at_hi var.now (num_of lo.entry)) (mark (placed_of 0 token.entry)) }
+{
+    if is(token.kind, Kind::Minus) {
+        Some(BoxPlace::HiNumber(var, lo))
+    } else {
+        let hi = num(false, token);
+        when(is(token.kind, Kind::Number), BoxPlace::Close(var, lo, hi))
+    }
+}
+
 /// The place behind a token in a box.
 #[tactic(auto, unfolding(crate::specs::BoxMachine::in_box))]
 fn in_box<'a>(place: BoxPlace<'a>, token: Token<'a>) -> Option<BoxPlace<'a>>
     ensures { option_map place_of result ≡ machine.in_box (place_of place.entry) (mark (placed_of 0 token.entry)) }
 {
+    let kind = token.kind;
     match place {
-        BoxPlace::Var => {
-            if is(token.kind, Kind::Name) {
-                Some(BoxPlace::In(token.text))
-            } else {
-                None
-            }
-        }
-        BoxPlace::In(v) => {
-            if is(token.kind, Kind::In) {
-                Some(BoxPlace::Open(v))
-            } else {
-                None
-            }
-        }
-        BoxPlace::Open(v) => {
-            if is(token.kind, Kind::Open) {
-                Some(BoxPlace::Lo(v))
-            } else {
-                None
-            }
-        }
-        BoxPlace::Lo(v) => {
-            if is(token.kind, Kind::Minus) {
-                Some(BoxPlace::LoNumber(v))
-            } else if is(token.kind, Kind::Number) {
-                Some(BoxPlace::Comma(v, num(false, token)))
-            } else {
-                None
-            }
-        }
+        BoxPlace::Var => when(is(kind, Kind::Name), BoxPlace::In(token.text)),
+        BoxPlace::In(v) => when(is(kind, Kind::In), BoxPlace::Open(v)),
+        BoxPlace::Open(v) => when(is(kind, Kind::Open), BoxPlace::Lo(v)),
+        BoxPlace::Lo(v) => at_lower(v, token),
         BoxPlace::LoNumber(v) => {
-            if is(token.kind, Kind::Number) {
-                Some(BoxPlace::Comma(v, num(true, token)))
-            } else {
-                None
-            }
+            let lo = num(true, token);
+            when(is(kind, Kind::Number), BoxPlace::Comma(v, lo))
         }
-        BoxPlace::Comma(v, lo) => {
-            if is(token.kind, Kind::Comma) {
-                Some(BoxPlace::Hi(v, lo))
-            } else {
-                None
-            }
-        }
-        BoxPlace::Hi(v, lo) => {
-            if is(token.kind, Kind::Minus) {
-                Some(BoxPlace::HiNumber(v, lo))
-            } else if is(token.kind, Kind::Number) {
-                Some(BoxPlace::Close(v, lo, num(false, token)))
-            } else {
-                None
-            }
-        }
+        BoxPlace::Comma(v, lo) => when(is(kind, Kind::Comma), BoxPlace::Hi(v, lo)),
+        BoxPlace::Hi(v, lo) => at_upper(v, lo, token),
         BoxPlace::HiNumber(v, lo) => {
-            if is(token.kind, Kind::Number) {
-                Some(BoxPlace::Close(v, lo, num(true, token)))
-            } else {
-                None
-            }
+            let hi = num(true, token);
+            when(is(kind, Kind::Number), BoxPlace::Close(v, lo, hi))
         }
         BoxPlace::Close(var, lo, hi) => {
-            if is(token.kind, Kind::Close) {
-                Some(BoxPlace::Behind(BoxText { var, lo, hi }))
-            } else {
-                None
-            }
+            when(
+                is(kind, Kind::Close),
+                BoxPlace::Behind(BoxText { var, lo, hi }),
+            )
         }
         BoxPlace::Behind(_) => None,
     }
@@ -155,53 +143,41 @@ fn made<'a>(place: BoxPlace<'a>) -> Option<BoxText<'a>>
     }
 }
 
-/// The reader, unless the token behind which it stands passes a limit.
-fn unless<'a>(passed: Option<Which>, reader: BoxReader<'a>) -> Result<BoxReader<'a>, LineFault>
-    ensures { MatchOption passed (result ≡ Ok reader.entry) (λ which. result ≡ Err (LineFault.Limit which)) }
+/// The reader behind a token, whatever limit it passes.
+fn advance<'a>(reader: BoxReader<'a>, token: Token<'a>) -> Result<BoxReader<'a>, LineFault>
+    ensures { Advances reading_of (placed_of 0 token.entry) result (next machine.boxes (reading_of reader.entry) (mark (placed_of 0 token.entry))) }
 {
-    match passed {
-        Some(which) => Err(LineFault::Limit(which)),
-        None => Ok(reader),
+    if reader.has_ended {
+        return Err(LineFault::Syntax(token.column));
+    }
+    let mut done = reader.done;
+    if let Some(place) = in_box(reader.place, token) {
+        return Ok(BoxReader {
+            done,
+            place,
+            has_ended: false,
+        });
+    }
+    let has_ended = is(token.kind, Kind::EndLine);
+    match made(reader.place) {
+        Some(made) if has_ended || is(token.kind, Kind::Comma) => {
+            done.push(made)?;
+            Ok(BoxReader {
+                done,
+                place: BoxPlace::Var,
+                has_ended,
+            })
+        }
+        _ => Err(LineFault::Syntax(token.column)),
     }
 }
 
 /// The reader after a token.
 fn step<'a>(line: u32, reader: BoxReader<'a>, token: Token<'a>) -> Result<BoxReader<'a>, LineFault>
-    ensures { GivesAt reading_of (placed_of line token.entry) result (step machine.boxes (reading_of reader.entry) (placed_of line token.entry)) }
+    ensures { GivesAt reading_of (placed_of line token.entry) result (step (listed machine.boxes) (reading_of reader.entry) (placed_of line token.entry)) }
 {
-    if reader.has_ended {
-        return Err(LineFault::Syntax(token.column));
-    }
-    let passed = passed_alone(line, token);
-    let mut done = reader.done;
-    match in_box(reader.place, token) {
-        Some(place) => unless(
-            passed,
-            BoxReader {
-                done,
-                place,
-                has_ended: false,
-            },
-        ),
-        None => match made(reader.place) {
-            None => Err(LineFault::Syntax(token.column)),
-            Some(made) => {
-                let has_ended = is(token.kind, Kind::EndLine);
-                if !has_ended && !is(token.kind, Kind::Comma) {
-                    return Err(LineFault::Syntax(token.column));
-                }
-                done.push(made)?;
-                unless(
-                    passed,
-                    BoxReader {
-                        done,
-                        place: BoxPlace::Var,
-                        has_ended,
-                    },
-                )
-            }
-        },
-    }
+    let reader = advance(reader, token)?;
+    unless(passed_alone(line, token), reader)
 }
 
 /// Reads the boxes of a line, behind its first word.
@@ -210,7 +186,7 @@ pub(crate) fn read_boxes<'a>(
     line: u32,
     tokens: &[Token<'a>],
 ) -> Result<BoxReader<'a>, LineFault>
-    ensures { Gives reading_of result (run machine.boxes (start_of machine.boxes) (map (placed_of line) tokens.now)) }
+    ensures { Gives reading_of result (run (listed machine.boxes) (start_of machine.boxes) (map (placed_of line) tokens.now)) }
 {
     let mut reader = BoxReader {
         done: Vec::new(alloc),
@@ -265,8 +241,8 @@ pub fn line_boxes<'a>(
     tokens: &[Token<'a>],
 ) -> Result<Vec<BoxTree>, LineFault>
     requires { AreLiterals (marks (map (placed_of line) tokens.now)) }
-    ensures ok { IfOk result (λ v. IsLine (AreJoined IsBox) (marks (map (placed_of line) tokens.now)) v.items) }
-    ensures fault { IfErr result (IsLineFault (AreJoined IsBox) (map (placed_of line) tokens.now)) }
+    ensures ok { IfOk result (λ v. IsLineWithin (AreJoined IsBox) no_limits (marks (map (placed_of line) tokens.now)) v.items) }
+    ensures fault { IfErr result (IsLineFault (AreJoined IsBox) no_limits (map (placed_of line) tokens.now)) }
 {
     let reader = read_boxes(alloc, line, tokens)?;
     if !reader.has_ended {
@@ -276,14 +252,10 @@ pub fn line_boxes<'a>(
 }
 
 /// The boxes that the bytes of a line spell.
-pub fn boxes_of_line(
-    alloc: Global,
-    line: u32,
-    text: &[u8],
-) -> Result<Vec<BoxTree>, LineFault>
+pub fn boxes_of_line(alloc: Global, line: u32, text: &[u8]) -> Result<Vec<BoxTree>, LineFault>
     requires { length text.now + 1 < 2 ^ 32 }
-    ensures ok { IfOk result (λ v. IsLine (AreJoined IsBox) (marks (tokens.line_tokens line text.now)) v.items) }
-    ensures fault { IfErr result (IsLineFault (AreJoined IsBox) (tokens.line_tokens line text.now)) }
+    ensures ok { IfOk result (λ v. IsLineWithin (AreJoined IsBox) no_limits (marks (tokens.line_tokens line text.now)) v.items) }
+    ensures fault { IfErr result (IsLineFault (AreJoined IsBox) no_limits (tokens.line_tokens line text.now)) }
 {
     let found = line_tokens(alloc, line, text)?;
     line_boxes(alloc, line, &found)

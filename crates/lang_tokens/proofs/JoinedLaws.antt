@@ -1,22 +1,22 @@
--- Reading items with commas between accepts what spells them and nothing else, and each place can be completed.
-use Rattle.std.proofs.Common.{◌≡◌, inl, inr, ℕ, Bool, true, false, List, [], ◌∷◌, ◌++◌, Option, Some, None, Result, Ok, Err, refl, sym, ap, ◌∙◌, subst, append_assoc, zero, suc, ◌<◌, ◌≤◌, length, map, take, get_or, arith, not}
+-- Reading items with commas between accepts what spells them and nothing else, each place can be completed, and limits are
+-- kept exactly where the items keep them.
+use Rattle.std.proofs.Common.{◌≡◌, inl, inr, ℕ, Bool, true, false, List, [], ◌∷◌, ◌++◌, Option, Some, None, Result, Ok, Err, refl, sym, ap, ◌∙◌, subst, append_assoc, zero, suc, ◌<◌, ◌≤◌, length, map, take, get_or, arith}
 use Rattle.std.specs.Prelude.{IfOk}
-use Rattle.std.proofs.lemmas.List.{append-nil, map-append}
+use Rattle.std.proofs.lemmas.List.{append-nil}
 use Rattle.lang_specs.specs.declared.Which.{Which}
 use Rattle.lang_specs.specs.declared.Kind.TheVariants.{Comma, EndLine}
 use Rattle.lang_specs.specs.Tokens.{Placed}
-use Rattle.lang_specs.specs.Marks.{Mark, mark, the}
+use Rattle.lang_specs.specs.Marks.{Mark, the}
 use Rattle.lang_specs.specs.Expressions.{AreJoined, IsSome}
 use Rattle.lang_tokens.specs.Kinds.{same_kind}
-use Rattle.lang_tokens.specs.declared.faults.Stop.{Stop}
-use Rattle.lang_tokens.specs.declared.faults.Stop.TheVariants.{Syntax, Limit}
-use Rattle.lang_tokens.specs.Machines.{AllValues, Machine, Reading, start_of, behind_item, in_item, next, first_of, passed_alone, allowed, step, Stopped, and_then, run}
-use Rattle.lang_tokens.specs.LineFaults.{marks, AreLiterals, IsLine, IsViableLine, StandsAt, PassesAlone, IsLineFault}
+use Rattle.lang_tokens.specs.Machines.{AllValues, Machine, Reading, start_of, behind_item, in_item, next, listed, run}
+use Rattle.lang_tokens.specs.LineFaults.{marks, AreLiterals, IsLine, Keeping, marks_keep, IsLineWithin, IsLineFault}
 use Rattle.lang_tokens.specs.declared.faults.LineFault.{LineFault}
-use Rattle.lang_tokens.specs.declared.faults.LineFault.TheVariants as faults
 use Rattle.lang_tokens.specs.Gives.{FailsSo}
 use Rattle.lang_tokens.proofs.LiteralMarks.{literals_front, literals_rest, literals_append}
-use Rattle.lang_tokens.proofs.Walks.{IsClean, mark_is_clean, is_the, if_either, walk, and_walk, walk_on, walk_more, walk_one, walk_step, walk_stopped}
+use Rattle.lang_tokens.proofs.LimitLemmas.{ArePlain, plain_append, plain_literals, plain_keep}
+use Rattle.lang_tokens.proofs.LineLaws.{LineLaws, reads_start, reads_run, line_fault, line_within}
+use Rattle.lang_tokens.proofs.Walks.{IsClean, is_the, if_either, walk, and_walk, walk_on, walk_one, walk_step}
 
 -- what is said of the machine of an item: how items are spelled, and what was read up to a place
 pub record Laws {P X : Type 0} (machine : Machine P X) (spell : X → List Mark) (said : P → List Mark) : Type 0 where
@@ -26,24 +26,26 @@ pub record Laws {P X : Type 0} (machine : Machine P X) (spell : X → List Mark)
   pub accepts : (x : X) → (p : P) × (walk machine.next machine.start (spell x) ≡ Some p) × (machine.made p ≡ Some x)
   pub no_comma : (p : P) (x : X) → machine.made p ≡ Some x → machine.next p (the Comma) ≡ None
   pub no_end : (p : P) (x : X) → machine.made p ≡ Some x → machine.next p (the EndLine) ≡ None
-  pub finishes : (p : P) → (more : List Mark) × (x : X) × (said p ++ more ≡ spell x) × AreLiterals more
+  pub finishes : (p : P) → (more : List Mark) × (x : X) × (said p ++ more ≡ spell x) × ArePlain more
 
-is_syntax : Stop → Bool
-is_syntax Syntax = true
-is_syntax (Limit which) = false
+abbrev pub at : {P X : Type 0} → List X → P → Reading P X
+at done p = record { done = done; place = p; has_ended = false }
 
-limit_apart : (which : Which) → Limit which ≡ Syntax → ⊥
-unfolding is_syntax
-limit_apart which e = let b : false ≡ true = ap is_syntax e in cc
+abbrev pub ended : {P X : Type 0} → Machine P X → List X → Reading P X
+ended machine done = record { done = done; place = machine.start; has_ended = true }
 
-err_is : (A : Type 0) (x y : Stop) → (let r : Result A Stop = Err x in r ≡ Err y) → x ≡ y
-err_is A x y e = cc
-
-which_is : (x y : Which) → Limit x ≡ Limit y → x ≡ y
-which_is x y e = cc
-
-none_apart : {A : Type 0} (x : A) → None ≡ Some x → ⊥
-none_apart x e = cc
+-- what is said of limits: a place that fits lies behind places that do, also over the end of an item; a place that fits can
+-- be completed within the limit; and behind the end the limit fits where what the items say keeps to it
+pub record LimitLaws {P X Y : Type 0} (machine : Machine P X) (finish : P → X) (Value : X → Y → Type 0) (keeps : Keeping (List Y)) : Type 0 where
+  pub at_start : (which : Which) → machine.fits which (start_of machine) ≡ true
+  pub inside : (which : Which) (done : List X) (p q : P) (m : Mark) → machine.next p m ≡ Some q → machine.fits which (at done q) ≡ true → machine.fits which (at done p) ≡ true
+  pub over_comma : (which : Which) (done : List X) (p : P) (x : X) → machine.made p ≡ Some x → machine.fits which (at (done ++ x ∷ []) machine.start) ≡ true →
+      machine.fits which (at done p) ≡ true
+  pub over_end : (which : Which) (done : List X) (p : P) (x : X) → machine.made p ≡ Some x → machine.fits which (ended machine (done ++ x ∷ [])) ≡ true →
+      machine.fits which (at done p) ≡ true
+  pub finished : (which : Which) (done : List X) (p : P) → machine.fits which (at done p) ≡ true → machine.fits which (ended machine (done ++ finish p ∷ [])) ≡ true
+  pub ended_alike : (which : Which) (xs : List X) (p : P) → machine.fits which (record { done = xs; place = p; has_ended = true }) ≡ true → machine.fits which (ended machine xs) ≡ true
+  pub at_end : (which : Which) (xs : List X) (ys : List Y) → AllValues Value xs ys → machine.fits which (ended machine xs) ≡ keeps which ys
 
 -- items with a comma behind each
 pub before : {X : Type 0} → (X → List Mark) → List X → List Mark
@@ -161,15 +163,9 @@ module _ {P X : Type 0} (machine : Machine P X) (spell : X → List Mark) (said 
 
   -- ---- what is spelled is taken
 
-  at : List X → P → Reading P X
-  at done p = record { done = done; place = p; has_ended = false }
-
-  ended : List X → Reading P X
-  ended done = record { done = done; place = machine.start; has_ended = true }
-
   -- a walk in an item is one in the list
   lift : (done : List X) (p q : P) (ms : List Mark) → walk machine.next p ms ≡ Some q → walk (next machine) (at done p) ms ≡ Some (at done q)
-  unfolding walk and_walk at
+  unfolding walk and_walk
   lift done p q [] e = let same : p ≡ q = cc in ap (λ z. Some (at done z)) same
   lift done p q (m ∷ ms) e =
       elim (machine.next p m) as (λ o. and_walk o (λ u. walk machine.next u ms) ≡ Some q → and_walk (in_item machine (at done p) m o) (λ u. walk (next machine) u ms) ≡ Some (at done q)) [
@@ -178,14 +174,12 @@ module _ {P X : Type 0} (machine : Machine P X) (spell : X → List Mark) (said 
       ] e
 
   comma_next : (done : List X) (p : P) (x : X) → machine.made p ≡ Some x → next machine (at done p) (the Comma) ≡ Some (at (done ++ x ∷ []) machine.start)
-  unfolding at
   comma_next done p x h = rw (laws.no_comma p x h, h) refl
 
-  end_next : (done : List X) (p : P) (x : X) → machine.made p ≡ Some x → next machine (at done p) (the EndLine) ≡ Some (ended (done ++ x ∷ []))
-  unfolding at ended
+  end_next : (done : List X) (p : P) (x : X) → machine.made p ≡ Some x → next machine (at done p) (the EndLine) ≡ Some (ended machine (done ++ x ∷ []))
   end_next done p x h = rw (laws.no_end p x h, h) refl
 
-  takes : (done : List X) (x : X) (xs : List X) → walk (next machine) (at done machine.start) (joined spell (x ∷ xs) ++ the EndLine ∷ []) ≡ Some (ended (done ++ x ∷ xs))
+  takes : (done : List X) (x : X) (xs : List X) → walk (next machine) (at done machine.start) (joined spell (x ∷ xs) ++ the EndLine ∷ []) ≡ Some (ended machine (done ++ x ∷ xs))
   unfolding joined
   takes done x [] =
       let one = laws.accepts x in
@@ -197,182 +191,100 @@ module _ {P X : Type 0} (machine : Machine P X) (spell : X → List Mark) (said 
       ap (walk (next machine) (at done machine.start)) (append_assoc (spell x) (the Comma ∷ joined spell (y ∷ xs)) (the EndLine ∷ []))
       ∙ walk_on (next machine) (at done machine.start) (at done one.0) (spell x) (the Comma ∷ more) (lift done machine.start one.0 (spell x) one.1)
       ∙ walk_step (next machine) (at done one.0) (at (done ++ x ∷ []) machine.start) (the Comma) more (comma_next done one.0 x one.2)
-      ∙ takes (done ++ x ∷ []) y xs ∙ ap (λ z. Some (ended z)) (append_assoc done (x ∷ []) (y ∷ xs))
+      ∙ takes (done ++ x ∷ []) y xs ∙ ap (λ z. Some (ended machine z)) (append_assoc done (x ∷ []) (y ∷ xs))
 
-  taken : (xs : List X) → IsSome xs → walk (next machine) (start_of machine) (joined spell xs ++ the EndLine ∷ []) ≡ Some (ended xs)
-  unfolding at
+  taken : (xs : List X) → IsSome xs → walk (next machine) (start_of machine) (joined spell xs ++ the EndLine ∷ []) ≡ Some (ended machine xs)
   taken [] h = absurd h
   taken (x ∷ xs) h = takes [] x xs
 
-  -- ---- each state can be completed
-
-  -- a continuation that makes these marks a line, of literals that have a value
-  abbrev Completes : List Mark → Type 0
-  Completes ms = (more : List Mark) × (xs : List X) × IsLine (Spelled spell) (ms ++ more) xs × AreLiterals more
-
-  completed : (b : Bool) (done : List X) (p : P) (ms : List Mark) → SaidBy b done p ms → Completes ms
-  completed true done p ms h = ([], done, (joined spell done, append-nil ms ∙ h.1, (h.0, refl)), tt)
-  completed false done p ms h =
-      let f = laws.finishes p in
-      let xs = done ++ f.1 ∷ [] in
-      let parts : ms ++ f.0 ≡ joined spell xs =
-      ap (λ z. z ++ f.0) h ∙ append_assoc (before spell done) (said p) f.0 ∙ ap (λ z. before spell done ++ z) f.2 ∙ sym (joined_last spell done f.1) in
-      (f.0 ++ the EndLine ∷ [], xs, (joined spell xs, sym (append_assoc ms f.0 (the EndLine ∷ [])) ∙ ap (λ z. z ++ the EndLine ∷ []) parts, (some_last done f.1, refl)), literals_append f.0 (the EndLine ∷ []) f.3 (refl, tt))
-
-  pub viable : (s : Reading P X) (ms : List Mark) → Said s ms → Completes ms
-  viable s ms h = completed s.has_ended s.done s.place ms h
-
-  -- ---- runs
-
-  allowed_ok : {S : Type 0} (w : Option Which) (o : Option S) (v : S) → allowed w o ≡ Ok v → o ≡ Some v
-  allowed_ok w None v e = absurd cc
-  allowed_ok (Some which) (Some s) v e = absurd cc
-  allowed_ok None (Some s) v e = cc
-
-  allowed_syntax : {S : Type 0} (w : Option Which) (o : Option S) → allowed w o ≡ Err Syntax → o ≡ None
-  allowed_syntax w None e = refl
-  allowed_syntax (Some which) (Some s) e = absurd (limit_apart which cc)
-  allowed_syntax None (Some s) e = absurd cc
-
-  then_ok : (t : Placed) (r : Result (Reading P X) Stop) (f : Reading P X → Result (Reading P X) Stopped) (u : Reading P X) → and_then t r f ≡ Ok u →
-      (v : Reading P X) × (r ≡ Ok v) × (f v ≡ Ok u)
-  then_ok t (Ok v) f u e = (v, refl, e)
-  then_ok t (Err w) f u e = absurd cc
-
-  pub said_run : (s u : Reading P X) (ts : List Placed) (ms : List Mark) → Said s ms → run machine s ts ≡ Ok u → Said u (ms ++ marks ts)
-  unfolding run
-  said_run s u [] ms h e = let same : s ≡ u = cc in subst (λ v. Said v (ms ++ [])) same (subst (Said s) (sym (append-nil ms)) h)
-  said_run s u (t ∷ ts) ms h e =
-      let o = then_ok t (step machine s t) (λ v. run machine v ts) u e in
-      let n = allowed_ok (first_of (machine.passes s.done s.place (mark t)) (passed_alone t)) (next machine s (mark t)) o.0 o.1 in
-      subst (Said u) (append_assoc ms (mark t ∷ []) (marks ts)) (said_run o.0 u ts (ms ++ mark t ∷ []) (said_next s o.0 (mark t) ms (mark_is_clean t) h n) o.2)
-
-  pub walk_run : (s u : Reading P X) (ts : List Placed) → run machine s ts ≡ Ok u → walk (next machine) s (marks ts) ≡ Some u
-  unfolding run walk
-  walk_run s u [] e = cc
-  walk_run s u (t ∷ ts) e =
-      let o = then_ok t (step machine s t) (λ v. run machine v ts) u e in
-      let n = allowed_ok (first_of (machine.passes s.done s.place (mark t)) (passed_alone t)) (next machine s (mark t)) o.0 o.1 in
-      walk_step (next machine) s o.0 (mark t) (marks ts) n ∙ walk_run o.0 u ts o.2
-
-  -- where a run stops
-  pub record RunStops (s : Reading P X) (ts : List Placed) (stopped : Stopped) : Type 0 where
-    pub front : List Placed
-    pub rest : List Placed
-    pub state : Reading P X
-    pub parts : ts ≡ front ++ stopped.token ∷ rest
-    pub before_it : run machine s front ≡ Ok state
-    pub at_it : step machine state stopped.token ≡ Err stopped.why
-
-  pub run_stops : (s : Reading P X) (ts : List Placed) (stopped : Stopped) → run machine s ts ≡ Err stopped → RunStops s ts stopped
-  unfolding run
-  run_stops s [] stopped e = absurd cc
-  run_stops s (t ∷ ts) stopped e =
-      elim (step machine s t) as (λ r. step machine s t ≡ r → and_then t r (λ u. run machine u ts) ≡ Err stopped → RunStops s (t ∷ ts) stopped) [
-        | Ok v ↦ λ h k.
-            let more = run_stops v ts stopped k in
-            record {
-              front = t ∷ more.front;
-              rest = more.rest;
-              state = more.state;
-              parts = ap (λ z. t ∷ z) more.parts;
-              before_it = ap (λ r. and_then t r (λ u. run machine u more.front)) h ∙ more.before_it;
-              at_it = more.at_it;
-            }
-        | Err w ↦ λ h k.
-            let same : record { token = t; why = w } ≡ stopped = cc in
-            subst (RunStops s (t ∷ ts)) same (record { front = []; rest = ts; state = s; parts = refl; before_it = refl; at_it = h })
-      ] refl e
-
   -- ---- what a line says, and where it says nothing
 
-  start_said : Said (start_of machine) []
-  unfolding before
-  start_said = sym laws.at_start
+  abbrev pub finish : P → X
+  finish p = (laws.finishes p).1
 
   ended_said : (b : Bool) (done : List X) (p : P) (ms : List Mark) → b ≡ true → SaidBy b done p ms → IsLine (Spelled spell) ms done
   ended_said true done p ms e h = (joined spell done, h.1, (h.0, refl))
   ended_said false done p ms e h = absurd cc
 
-  none_walks : (ms more : List Mark) → walk (next machine) (start_of machine) ms ≡ None → (xs : List X) → IsLine (Spelled spell) (ms ++ more) xs → ⊥
-  none_walks ms more e xs (inside, parts, (some, spelled)) =
-      let whole : ms ++ more ≡ joined spell xs ++ the EndLine ∷ [] = parts ∙ ap (λ z. z ++ the EndLine ∷ []) spelled in
-      let stopped = walk_stopped (next machine) (start_of machine) ms more e in
-      let went : walk (next machine) (start_of machine) (ms ++ more) ≡ Some (ended xs) = ap (walk (next machine) (start_of machine)) whole ∙ taken xs some in
-      none_apart (ended xs) (sym stopped ∙ went)
+  module _ {Y : Type 0} (Is : List Mark → Y → Type 0) (Value : X → Y → Type 0) (values : Values spell Is Value) (keeps : Keeping (List Y)) (limits : LimitLaws machine finish Value keeps) where
+    line_taken : (ms : List Mark) (ys : List Y) → IsLine (AreJoined Is) ms ys →
+        (u : Reading P X) × (walk (next machine) (start_of machine) ms ≡ Some u) × ((which : Which) → keeps which ys ≡ true → machine.fits which u ≡ true)
+    line_taken ms ys (inside, parts, h) =
+        let s = joined_spelled spell Is Value values inside ys h in
+        let whole : ms ≡ joined spell s.0 ++ the EndLine ∷ [] = parts ∙ ap (λ z. z ++ the EndLine ∷ []) s.1.1 in
+        (ended machine s.0, ap (walk (next machine) (start_of machine)) whole ∙ taken s.0 s.1.0, λ which k. limits.at_end which s.0 ys s.2 ∙ k)
 
-  allowed_limit : (w : Option Which) (o : Option (Reading P X)) (which : Which) → allowed w o ≡ Err (Limit which) → (v : Reading P X) × (o ≡ Some v) × (w ≡ Some which)
-  allowed_limit w None which e = absurd (limit_apart which (sym (err_is (Reading P X) Syntax (Limit which) e)))
-  allowed_limit (Some other) (Some s) which e = (s, refl, ap Some (which_is other which (err_is (Reading P X) (Limit other) (Limit which) e)))
-  allowed_limit None (Some s) which e = absurd cc
+    over_item : (which : Which) (done : List X) (p : P) (x : X) (m : Mark) (u : Reading P X) → machine.made p ≡ Some x → behind_item machine done m (Some x) ≡ Some u →
+        machine.fits which u ≡ true → machine.fits which (at done p) ≡ true
+    over_item which done p x m u made e f =
+        elim (if_either (same_kind m.kind Comma) (same_kind m.kind EndLine) (at (done ++ x ∷ []) machine.start) (ended machine (done ++ x ∷ [])) u e) [
+          | inl h ↦ limits.over_comma which done p x made (subst (λ v. machine.fits which v ≡ true) (sym h.1) f)
+          | inr h ↦ limits.over_end which done p x made (subst (λ v. machine.fits which v ≡ true) (sym h.1) f)
+        ]
 
-  module _ {Y : Type 0} (Is : List Mark → Y → Type 0) (Value : X → Y → Type 0) (values : Values spell Is Value) where
-    -- what is read is spelled so
-    pub found : (u : Reading P X) (ts : List Placed) (ys : List Y) → run machine (start_of machine) ts ≡ Ok u → u.has_ended ≡ true → AllValues Value u.done ys →
-        IsLine (AreJoined Is) (marks ts) ys
-    found u ts ys e h v =
-        let line = ended_said u.has_ended u.done u.place (marks ts) h (said_run (start_of machine) u ts [] start_said e) in
-        (joined spell u.done, line.1 ∙ ap (λ z. z ++ the EndLine ∷ []) line.2.1, joined_spells spell Is Value values u.done ys line.2.0 v)
+    fits_in : (which : Which) (done : List X) (p : P) (m : Mark) (u : Reading P X) (o : Option P) → machine.next p m ≡ o → in_item machine (at done p) m o ≡ Some u →
+        machine.fits which u ≡ true → machine.fits which (at done p) ≡ true
+    fits_in which done p m u (Some q) n e f =
+        let is_u : at done q ≡ u = cc in limits.inside which done p q m n (subst (λ v. machine.fits which v ≡ true) (sym is_u) f)
+    fits_in which done p m u None n e f =
+        elim (machine.made p) as (λ o. machine.made p ≡ o → behind_item machine done m o ≡ Some u → machine.fits which (at done p) ≡ true) [
+          | None ↦ λ h k. absurd cc
+          | Some x ↦ λ h k. over_item which done p x m u h k f
+        ] refl e
 
-    valued_line : (ms more : List Mark) (xs : List X) → AreLiterals ms → AreLiterals more → IsLine (Spelled spell) (ms ++ more) xs → IsViableLine (AreJoined Is) ms
-    valued_line ms more xs h k (inside, parts, (some, spelled)) =
+    fits_by : (which : Which) (b : Bool) (done : List X) (p : P) (m : Mark) (u : Reading P X) → next machine (record { done = done; place = p; has_ended = b }) m ≡ Some u →
+        machine.fits which u ≡ true → machine.fits which (record { done = done; place = p; has_ended = b }) ≡ true
+    fits_by which true done p m u e f = absurd cc
+    fits_by which false done p m u e f = fits_in which done p m u (machine.next p m) refl e f
+
+    -- a continuation that makes these marks a line, within each limit that fits
+    abbrev Completes : Reading P X → List Mark → Type 0
+    Completes s ms =
+        (more : List Mark) × (ys : List Y) × IsLine (AreJoined Is) (ms ++ more) ys
+        × ((which : Which) → machine.fits which s ≡ true → (keeps which ys ≡ true) × (marks_keep which more ≡ true))
+
+    valued : (s : Reading P X) (ms more : List Mark) (xs : List X) → AreLiterals ms → ArePlain more → IsLine (Spelled spell) (ms ++ more) xs →
+        ((which : Which) → machine.fits which s ≡ true → machine.fits which (ended machine xs) ≡ true) → Completes s ms
+    valued s ms more xs h k (inside, parts, (some, spelled)) f =
         let whole : ms ++ more ≡ joined spell xs ++ the EndLine ∷ [] = parts ∙ ap (λ z. z ++ the EndLine ∷ []) spelled in
-        let read = literals_front (joined spell xs) (the EndLine ∷ []) (subst AreLiterals whole (literals_append ms more h k)) in
+        let read = literals_front (joined spell xs) (the EndLine ∷ []) (subst AreLiterals whole (literals_append ms more h (plain_literals more k))) in
         let ys = joined_valued spell Is Value values xs read in
-        (more, ys.0, (joined spell xs, whole, joined_spells spell Is Value values xs ys.0 some ys.1))
+        (more, ys.0, (joined spell xs, whole, joined_spells spell Is Value values xs ys.0 some ys.1), λ which fits. (sym (limits.at_end which xs ys.0 ys.1) ∙ f which fits, plain_keep which more k))
 
-    viable_said : (s : Reading P X) (ms : List Mark) → AreLiterals ms → Said s ms → IsViableLine (AreJoined Is) ms
-    viable_said s ms h said_so = let c = viable s ms said_so in valued_line ms c.0 c.1 h c.3 c.2
+    completed : (b : Bool) (done : List X) (p : P) (ms : List Mark) → AreLiterals ms → SaidBy b done p ms → Completes (record { done = done; place = p; has_ended = b }) ms
+    completed true done p ms read h =
+        valued (record { done = done; place = p; has_ended = true }) ms [] done read tt (joined spell done, append-nil ms ∙ h.1, (h.0, refl)) (λ which f. limits.ended_alike which done p f)
+    completed false done p ms read h =
+        let f = laws.finishes p in
+        let xs = done ++ f.1 ∷ [] in
+        let parts : ms ++ f.0 ≡ joined spell xs =
+        ap (λ z. z ++ f.0) h ∙ append_assoc (before spell done) (said p) f.0 ∙ ap (λ z. before spell done ++ z) f.2 ∙ sym (joined_last spell done f.1) in
+        valued (at done p) ms (f.0 ++ the EndLine ∷ []) xs read (plain_append f.0 (the EndLine ∷ []) f.3 (refl, tt))
+        (joined spell xs, sym (append_assoc ms f.0 (the EndLine ∷ [])) ∙ ap (λ z. z ++ the EndLine ∷ []) parts, (some_last done f.1, refl)) (λ which fits. limits.finished which done p fits)
 
-    spelled_line : (ms : List Mark) (ys : List Y) → IsLine (AreJoined Is) ms ys → (xs : List X) × IsLine (Spelled spell) ms xs
-    spelled_line ms ys (inside, parts, h) = let s = joined_spelled spell Is Value values inside ys h in (s.0, (inside, parts, s.1))
+    pub line_laws : LineLaws (listed machine) Said (AreJoined Is) keeps
+    unfolding before
+    line_laws = record {
+      start_said = sym laws.at_start;
+      start_fits = limits.at_start;
+      said_next = said_next;
+      taken = line_taken;
+      fits_before = λ which s u m e f. fits_by which s.has_ended s.done s.place m u e f;
+      completes = λ s ms read h. completed s.has_ended s.done s.place ms read h;
+    }
 
-    literals_of : (ts front rest : List Placed) → ts ≡ front ++ rest → AreLiterals (marks ts) → AreLiterals (marks front)
-    literals_of ts front rest e h = literals_front (marks front) (marks rest) (subst AreLiterals (ap marks e ∙ map-append mark front rest) h)
+    -- what is read is spelled so, within all limits
+    pub found : (u : Reading P X) (ts : List Placed) (ys : List Y) → AreLiterals (marks ts) → run (listed machine) (start_of machine) ts ≡ Ok u → u.has_ended ≡ true →
+        AllValues Value u.done ys → IsLineWithin (AreJoined Is) keeps (marks ts) ys
+    found u ts ys read e h v =
+        let reads = reads_run (listed machine) Said (AreJoined Is) keeps line_laws (start_of machine) u ts [] (reads_start (listed machine) Said (AreJoined Is) keeps line_laws) read e in
+        let line = ended_said u.has_ended u.done u.place (marks ts) h reads.said_so in
+        let says : IsLine (AreJoined Is) (marks ts) ys = (joined spell u.done, line.1 ∙ ap (λ z. z ++ the EndLine ∷ []) line.2.1, joined_spells spell Is Value values u.done ys line.2.0 v) in
+        line_within (listed machine) Said (AreJoined Is) keeps line_laws u ts ys read e says
+        (λ which f. sym (limits.at_end which u.done ys v) ∙ limits.ended_alike which u.done u.place (subst (λ b. machine.fits which (record { done = u.done; place = u.place; has_ended = b }) ≡ true) h f))
 
-    -- the token where a run stops for no limit is the first that no continuation allows
-    pub refused : (ts : List Placed) (t : Placed) (column : ℕ) → AreLiterals (marks ts) → run machine (start_of machine) ts ≡ Err (record { token = t; why = Syntax }) → column ≡ t.column →
-        StandsAt (AreJoined Is) ts column
-    refused ts t column read e is =
-        let stop = run_stops (start_of machine) ts (record { token = t; why = Syntax }) e in
-        let gone = walk_run (start_of machine) stop.state stop.front stop.before_it in
-        let no = allowed_syntax (first_of (machine.passes stop.state.done stop.state.place (mark t)) (passed_alone t)) (next machine stop.state (mark t)) stop.at_it in
-        let ends : walk (next machine) (start_of machine) (marks (stop.front ++ t ∷ [])) ≡ None =
-        ap (walk (next machine) (start_of machine)) (map-append mark stop.front (t ∷ [])) ∙ walk_more (next machine) (start_of machine) stop.state (marks stop.front) (mark t) gone ∙ no in
-        record {
-          front = stop.front;
-          token = t;
-          rest = stop.rest;
-          parts = stop.parts;
-          viable = viable_said stop.state (marks stop.front) (literals_of ts stop.front (t ∷ stop.rest) stop.parts read) (said_run (start_of machine) stop.state stop.front [] start_said stop.before_it);
-          none = λ v. let s = spelled_line (marks (stop.front ++ t ∷ []) ++ v.0) v.1 v.2 in none_walks (marks (stop.front ++ t ∷ [])) v.0 ends s.0 s.1;
-          column_is = is;
-        }
-
-    -- where a run stops for a limit, some continuation allows the token
-    pub passed : (ts : List Placed) (t : Placed) (which : Which) → AreLiterals (marks ts) → run machine (start_of machine) ts ≡ Err (record { token = t; why = Limit which }) →
-        ((done : List X) (p : P) (m : Mark) → machine.passes done p m ≡ None) → PassesAlone (AreJoined Is) ts which
-    passed ts t which read e unlimited =
-        let stop = run_stops (start_of machine) ts (record { token = t; why = Limit which }) e in
-        let before_said = said_run (start_of machine) stop.state stop.front [] start_said stop.before_it in
-        let on = allowed_limit (first_of (machine.passes stop.state.done stop.state.place (mark t)) (passed_alone t)) (next machine stop.state (mark t)) which stop.at_it in
-        let said_so = said_next stop.state on.0 (mark t) (marks stop.front) (mark_is_clean t) before_said on.1 in
-        let marks_are : marks (stop.front ++ t ∷ []) ≡ marks stop.front ++ mark t ∷ [] = map-append mark stop.front (t ∷ []) in
-        record {
-          front = stop.front;
-          token = t;
-          rest = stop.rest;
-          parts = stop.parts;
-          viable = viable_said on.0 (marks (stop.front ++ t ∷ [])) (literals_of ts (stop.front ++ t ∷ []) stop.rest (stop.parts ∙ sym (append_assoc stop.front (t ∷ []) stop.rest)) read) (subst (Said on.0) (sym marks_are) said_so);
-          passed = ap (λ w. first_of w (passed_alone t)) (sym (unlimited stop.state.done stop.state.place (mark t))) ∙ on.2;
-        }
-
-    -- the fault of a line whose items have no limits of their own
-    pub line_fault : (ts : List Placed) (e : LineFault) → AreLiterals (marks ts) → ((done : List X) (p : P) (m : Mark) → machine.passes done p m ≡ None) →
-        FailsSo e (run machine (start_of machine) ts) → IsLineFault (AreJoined Is) ts e
-    line_fault ts faults.Memory read unlimited h = tt
-    line_fault ts (faults.Syntax column) read unlimited (t, e, is) = refused ts t column read e is
-    line_fault ts (faults.Limit which) read unlimited (t, e) = passed ts t which read e unlimited
+    pub first_fault : (ts : List Placed) (e : LineFault) → AreLiterals (marks ts) → FailsSo e (run (listed machine) (start_of machine) ts) → IsLineFault (AreJoined Is) keeps ts e
+    first_fault ts e read h = line_fault (listed machine) Said (AreJoined Is) keeps line_laws ts e read h
 
 -- items that were read, with one more
 pub values_more : {A X Y : Type 0} (Value : X → Y → Type 0) (f : A → X) (ts : List A) (n : ℕ) (other : A) (ys : List Y) (y : Y) → n < length ts →
@@ -394,7 +306,3 @@ values_whole Value f (t ∷ ts) (suc n) (z ∷ ys) le h = (h.0, values_whole Val
 pub if_ok : {A E : Type 0} (P Q : A → Type 0) (r : Result A E) → ((x : A) → P x → Q x) → IfOk r P → IfOk r Q
 if_ok P Q (Ok x) f h = f x h
 if_ok P Q (Err e) f h = h
-
-pub not_false : (b : Bool) → not b ≡ false → b ≡ true
-not_false true e = refl
-not_false false e = absurd cc

@@ -2,6 +2,8 @@ pub mod AsciiText
 pub mod Cutting
 pub mod FirstLine
 pub mod JoinedLaws
+pub mod LimitLemmas
+pub mod LineLaws
 pub mod LiteralMarks
 pub mod LiteralTokens
 pub mod Running

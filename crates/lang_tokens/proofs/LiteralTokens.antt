@@ -1,5 +1,5 @@
 -- Each literal among the tokens of a line has a value, or too many digits.
-use Rattle.std.proofs.Common.{◌≡◌, ℕ, zero, suc, ◌+◌, ◌-◌, ◌==◌, Bool, true, false, not, ◌&&◌, if◌then◌else◌, List, [], ◌∷◌, take, Some, Result, Ok, Err, refl, sym, ap}
+use Rattle.std.proofs.Common.{◌≡◌, ℕ, zero, suc, ◌+◌, ◌-◌, ◌==◌, Bool, true, false, not, if◌then◌else◌, List, [], ◌∷◌, take, Some, Result, Ok, Err, refl, sym, ap}
 use Rattle.std.specs.List.{find, list_all, starts_with}
 use Rattle.std.specs.Option.{unwrap_or}
 use Rattle.std.specs.Str.{bytes_eq}
@@ -14,25 +14,18 @@ use Rattle.lang_specs.specs.Words.{spelled, keyword_kinds, sign_kinds}
 use Rattle.lang_specs.specs.Tokens.{is_blank, begins_comment, begins_word, word_len, literal_len, kind_of_literal, token_at, word_at, literal_at, sign_at, placed, behind, end_of_line, cut, line_tokens}
 use Rattle.lang_specs.specs.Marks.{Mark, mark}
 use Rattle.lang_tokens.specs.Kinds.{same_kind}
+use Rattle.lang_tokens.proofs.Walks.{both}
 use Rattle.lang_tokens.specs.LineFaults.{marks, is_value, is_literal, AreLiterals}
 
 abbrev no_number : Kind → Bool
 no_number k = not (same_kind k Number)
 
-left : (a b : Bool) → (a && b) ≡ true → a ≡ true
-left true b e = refl
-left false b e = absurd cc
-
-right : (a b : Bool) → (a && b) ≡ true → b ≡ true
-right true b e = e
-right false b e = absurd cc
-
 found_no_number : (p : Kind → Bool) (ks : List Kind) (d : Kind) → list_all no_number ks ≡ true → no_number d ≡ true → no_number (unwrap_or (find p ks) d) ≡ true
 found_no_number p [] d h e = e
 found_no_number p (k ∷ ks) d h e =
     elim (p k) as (λ x. no_number (unwrap_or (if x then Some k else find p ks) d) ≡ true) [
-      | true ↦ left (no_number k) (list_all no_number ks) h
-      | false ↦ found_no_number p ks d (right (no_number k) (list_all no_number ks) h) e
+      | true ↦ (both (no_number k) (list_all no_number ks) h).0
+      | false ↦ found_no_number p ks d (both (no_number k) (list_all no_number ks) h).1 e
     ]
 
 -- what is no literal needs no value

@@ -1,6 +1,7 @@
 -- Walking over marks, a step for each.
-use Rattle.std.proofs.Common.{◌≡◌, ◌⊎◌, inl, inr, ℕ, Bool, true, false, if◌then◌else◌, get_or, List, [], ◌∷◌, ◌++◌, Option, Some, None, refl, sym, ap, ◌∙◌}
+use Rattle.std.proofs.Common.{◌≡◌, ◌⊎◌, inl, inr, ℕ, zero, suc, ◌&&◌, subst, Bool, true, false, if◌then◌else◌, get_or, List, [], ◌∷◌, ◌++◌, Option, Some, None, refl, sym, ap, ◌∙◌}
 use Rattle.std.proofs.lemmas.Bool.{eqb-true}
+use Rattle.std.specs.List.{list_all}
 use Rattle.lang_specs.specs.declared.Kind.{Kind}
 use Rattle.lang_specs.specs.declared.Kind.TheVariants.{Name, Number, Lha, Automaton, Var, Loc, Unsafe, Init, Inv, Flow, In, Also, Trans, As, When, Set, Free, End, True, Obs, Within, Comma, Open, Close, AtMost, AtLeast, Equal, Less, Greater, Plus, Minus, Times, Arrow, EndLine, EndText, Other}
 use Rattle.lang_specs.specs.Tokens.{Placed}
@@ -9,13 +10,12 @@ use Rattle.lang_tokens.specs.Kinds.{code, same_kind}
 
 -- ---- kinds
 
-kinds : List Kind
+abbrev kinds : List Kind
 kinds =
     Name ∷ Number ∷ Lha ∷ Automaton ∷ Var ∷ Loc ∷ Unsafe ∷ Init ∷ Inv ∷ Flow ∷ In ∷ Also ∷ Trans ∷ As ∷ When ∷ Set ∷ Free ∷ End ∷ True ∷ Obs ∷ Within
     ∷ Comma ∷ Open ∷ Close ∷ AtMost ∷ AtLeast ∷ Equal ∷ Less ∷ Greater ∷ Plus ∷ Minus ∷ Times ∷ Arrow ∷ EndLine ∷ EndText ∷ Other ∷ []
 
 decoded : (k : Kind) → get_or kinds (code k) Other ≡ k
-unfolding kinds
 decoded Name = refl
 decoded Number = refl
 decoded Lha = refl
@@ -53,8 +53,21 @@ decoded EndLine = refl
 decoded EndText = refl
 decoded Other = refl
 
+pub both : (a b : Bool) → (a && b) ≡ true → (a ≡ true) × (b ≡ true)
+both true b e = (refl, e)
+both false b e = absurd cc
+
 pub same_kind-true : (a b : Kind) → same_kind a b ≡ true → a ≡ b
 same_kind-true a b e = sym (decoded a) ∙ ap (λ n. get_or kinds n Other) (eqb-true _ _ e) ∙ decoded b
+
+listed : (q : Kind → Bool) (ks : List Kind) (n : ℕ) → list_all q ks ≡ true → q Other ≡ true → q (get_or ks n Other) ≡ true
+listed q [] n h e = e
+listed q (k ∷ ks) zero h e = (both (q k) (list_all q ks) h).0
+listed q (k ∷ ks) (suc n) h e = listed q ks n (both (q k) (list_all q ks) h).1 e
+
+-- what the list of kinds shows holds of each kind
+pub every_kind : (q : Kind → Bool) → list_all q kinds ≡ true → q Other ≡ true → (k : Kind) → q k ≡ true
+every_kind q h e k = subst (λ x. q x ≡ true) (decoded k) (listed q kinds (code k) h e)
 
 -- a mark that has a text only where its kind has one
 pub record IsClean (m : Mark) : Type 0 where

@@ -1,5 +1,5 @@
 -- What a function of the code returned is what reading gives, unless memory ran out.
-use Rattle.std.specs.Prelude.{◌≡◌, ⊤, Result, Ok, Err}
+use Rattle.std.specs.Prelude.{◌≡◌, ⊤, Option, Some, None, Result, Ok, Err}
 use Rattle.lang_specs.specs.Tokens.{Placed}
 use Rattle.lang_tokens.specs.declared.faults.Stop.{Stop}
 use Rattle.lang_tokens.specs.declared.faults.Stop.TheVariants as stops
@@ -12,6 +12,13 @@ abbrev pub Fails : {Y : Type 0} → Placed → LineFault → Result Y Stop → T
 Fails t faults.Memory read = ⊤
 Fails t (faults.Syntax column) read = (read ≡ Err stops.Syntax) × (column ≡ t.column)
 Fails t (faults.Limit which) read = read ≡ Err (stops.Limit which)
+
+-- the state that the code has behind a token, if something allows it
+abbrev pub Advances : {X Y : Type 0} → (X → Y) → Placed → Result X LineFault → Option Y → Type 0
+Advances view t (Ok x) next = next ≡ Some (view x)
+Advances view t (Err faults.Memory) next = ⊤
+Advances view t (Err (faults.Syntax column)) next = (next ≡ None) × (column ≡ t.column)
+Advances view t (Err (faults.Limit which)) next = ⊥
 
 -- what a step of the code gives at a token
 abbrev pub GivesAt : {X Y : Type 0} → (X → Y) → Placed → Result X LineFault → Result Y Stop → Type 0

@@ -1,8 +1,8 @@
 //! Why a line is none of a model.
 
-ghost use Rattle.std.specs.Prelude.{◌≡◌, Some, None};
-ghost use Rattle.std.specs.Option.{option_map};
-ghost use Rattle.lang_specs.specs.Tokens.{Placed};
+ghost use Rattle.std.specs.Prelude.{◌≡◌, ◌||◌, ◌&&◌, Some, None, Ok, Err, MatchOption};
+ghost use Rattle.lang_specs.specs.Marks.{mark};
+ghost use Rattle.lang_specs.specs.FirstFault.{is_joint};
 ghost use Rattle.lang_tokens.specs.Kinds.{same_kind};
 ghost use Rattle.lang_tokens.specs.Machines.{passed_alone};
 ghost use Rattle.lang_tokens.specs.Places.{placed_of};
@@ -55,9 +55,27 @@ pub fn is(a: Kind, b: Kind) -> bool
     a == b
 }
 
+/// Whether a limit on counts is kept at a token: some continuation still keeps to it, or one did before the token, which
+/// joins a next item to those before.
+pub fn fits_on(before: bool, behind: bool, kind: Kind) -> bool
+    ensures { result ≡ behind || (is_joint kind && before) }
+{
+    behind || (before && matches!(kind, Kind::Comma | Kind::Plus | Kind::Minus))
+}
+
+/// The value, unless a limit is passed.
+pub fn unless<T: Drop>(passed: Option<Which>, value: T) -> Result<T, LineFault>
+    ensures { MatchOption passed (result ≡ Ok value) (λ which. result ≡ Err (LineFault.Limit which)) }
+{
+    match passed {
+        Some(which) => Err(LineFault::Limit(which)),
+        None => Ok(value),
+    }
+}
+
 /// The limit that a name or a literal passes, whatever stands before it.
 pub fn passed_alone<'a>(line: u32, token: Token<'a>) -> Option<Which>
-    ensures { result ≡ passed_alone (placed_of line token.entry) }
+    ensures { result ≡ passed_alone (mark (placed_of line token.entry)) }
 {
     match token.kind {
         Kind::Name => {

@@ -5,7 +5,7 @@ mod faults;
 mod lines;
 mod tokens;
 
-pub use faults::{LineFault, Stop, is, passed_alone};
+pub use faults::{LineFault, Stop, fits_on, is, passed_alone, unless};
 pub use lines::next_line;
 pub use tokens::{Token, line_tokens, literal_value, name_of};
 
