@@ -1,1 +1,3 @@
 pub mod BoxLaws
+pub mod NameLaws
+pub mod SixLaws

@@ -1,4 +1,4 @@
-use Rattle.std.proofs.Common.{◌≡◌, true, map, refl, subst}
+use Rattle.std.proofs.Common.{◌≡◌, true, map, subst}
 use Rattle.std.proofs.lemmas.Result.{err_from_is_err_and}
 use Rattle.lang_specs.specs.Expressions.{AreJoined, IsBox}
 use Rattle.lang_tokens.specs.Places.{placed_of}
