@@ -13,7 +13,7 @@ use Rattle.lang_tokens.specs.LineFaults.{AreLiterals}
 use Rattle.lang_tokens.proofs.LiteralMarks.{zero_text, nought, literal_value, literals_front, literals_rest}
 use Rattle.lang_tokens.proofs.Walks.{IsClean, is_the, is_a_name, is_a_number, if_some, if_either, walk, and_walk}
 use Rattle.lang_tokens.proofs.LimitLemmas.{ArePlain}
-use Rattle.lang_tokens.proofs.JoinedLaws.{Laws, LimitLaws, Values, finish}
+use Rattle.lang_tokens.proofs.JoinedLaws.{Any, Laws, LimitLaws, Values, finish}
 
 abbrev pub spell_num : Num → List Mark
 spell_num n = minus_if n.neg ++ a_number n.text ∷ []
@@ -161,18 +161,22 @@ finishes (at_hi_number v lo) = (
 finishes (at_close v lo hi) = (the Close ∷ [], record { var = v; lo = lo; hi = hi }, refl, (refl, tt))
 finishes (behind b) = ([], b, append-nil (spell_box b), tt)
 
-pub box_laws : Laws boxes spell_box said
+pub box_laws : Laws boxes spell_box said Any Any
 box_laws = record {
   at_start = refl;
   one_more = one_more;
   complete = complete;
-  accepts = accepts;
+  start_fine = tt;
+  stays_fine = λ p q m h e. tt;
+  made_good = λ p b h e. tt;
+  accepts = λ b h. accepts b;
   no_comma = λ p b e. nothing_behind p b (the Comma) e;
   no_end = λ p b e. nothing_behind p b (the EndLine) e;
   finishes = finishes;
+  finish_good = λ p h. tt;
 }
 
-pub box_limits : LimitLaws boxes (finish boxes spell_box said box_laws) IsBoxValue no_limits
+pub box_limits : LimitLaws boxes (finish boxes spell_box said Any Any box_laws) IsBoxValue no_limits
 box_limits = record {
   at_start = λ which. refl;
   inside = λ which done p q m e f. refl;
@@ -217,5 +221,5 @@ box_valued b h =
     let hi = num_valued b.hi (literals_rest (spell_num b.lo) (the Comma ∷ spell_num b.hi) both).1 in
     (record { var = b.var; lo = lo.0; hi = hi.0 }, (refl, lo.1, hi.1))
 
-pub box_values : Values spell_box IsBox IsBoxValue
-box_values = record { spells = box_spells; spelled = box_spelled; valued = box_valued }
+pub box_values : Values spell_box IsBox IsBoxValue Any
+box_values = record { spells = λ b y g h. box_spells b y h; spelled = λ ms y h. (let s = box_spelled ms y h in (s.0, s.1, s.2, tt)); valued = λ b g h. box_valued b h }

@@ -13,7 +13,7 @@ use Rattle.lang_tokens.specs.LineFaults.{AreLiterals}
 use Rattle.lang_tokens.proofs.LiteralMarks.{zero_text, nought, literal_value}
 use Rattle.lang_tokens.proofs.Walks.{IsClean, is_the, is_a_name, is_a_number, if_some, walk, and_walk}
 use Rattle.lang_tokens.proofs.LimitLemmas.{ArePlain}
-use Rattle.lang_tokens.proofs.JoinedLaws.{Laws, LimitLaws, Values, finish}
+use Rattle.lang_tokens.proofs.JoinedLaws.{Any, Laws, LimitLaws, Values, finish}
 use Rattle.lang_lists.specs.SixAtMost.{six_at_most}
 use Rattle.lang_lists.proofs.SixLaws.{six_laws}
 
@@ -50,22 +50,26 @@ name_finishes : (p : names.Place) → (more : List Mark) × (x : List ℕ) × (s
 name_finishes names.at_name = (a_name (120 ∷ []) ∷ [], 120 ∷ [], refl, (refl, tt))
 name_finishes (names.behind name) = ([], name, refl, tt)
 
-pub name_laws : Laws names.names spell_name said_name
+pub name_laws : Laws names.names spell_name said_name Any Any
 name_laws = record {
   at_start = refl;
   one_more = name_more;
   complete = name_complete;
-  accepts = name_accepts;
+  start_fine = tt;
+  stays_fine = λ p q m h e. tt;
+  made_good = λ p x h e. tt;
+  accepts = λ x h. name_accepts x;
   no_comma = λ p x e. behind_name p x (the Comma) e;
   no_end = λ p x e. behind_name p x (the EndLine) e;
   finishes = name_finishes;
+  finish_good = λ p h. tt;
 }
 
 abbrev pub SameName : List ℕ → List ℕ → Type 0
 SameName x y = x ≡ y
 
-pub name_limits : LimitLaws names.names (finish names.names spell_name said_name name_laws) SameName six_at_most
-name_limits = six_laws names.at_name in_name names.made (finish names.names spell_name said_name name_laws) SameName
+pub name_limits : LimitLaws names.names (finish names.names spell_name said_name Any Any name_laws) SameName six_at_most
+name_limits = six_laws names.at_name in_name names.made (finish names.names spell_name said_name Any Any name_laws) SameName
 
 -- ---- bounds
 
@@ -116,27 +120,31 @@ bound_finishes (bounds.at_within v) = (the Within ∷ nought ∷ [], record { va
 bound_finishes (bounds.at_literal v) = (nought ∷ [], record { var = v; text = zero_text }, refl, (refl, tt))
 bound_finishes (bounds.behind b) = ([], b, refl, tt)
 
-pub bound_laws : Laws bounds.bounds spell_bound said_bound
+pub bound_laws : Laws bounds.bounds spell_bound said_bound Any Any
 bound_laws = record {
   at_start = refl;
   one_more = bound_more;
   complete = bound_complete;
-  accepts = bound_accepts;
+  start_fine = tt;
+  stays_fine = λ p q m h e. tt;
+  made_good = λ p x h e. tt;
+  accepts = λ x h. bound_accepts x;
   no_comma = λ p x e. behind_bound p x (the Comma) e;
   no_end = λ p x e. behind_bound p x (the EndLine) e;
   finishes = bound_finishes;
+  finish_good = λ p h. tt;
 }
 
-pub bound_limits : LimitLaws bounds.bounds (finish bounds.bounds spell_bound said_bound bound_laws) IsBoundValue six_at_most
-bound_limits = six_laws bounds.at_var in_bound bounds.made (finish bounds.bounds spell_bound said_bound bound_laws) IsBoundValue
+pub bound_limits : LimitLaws bounds.bounds (finish bounds.bounds spell_bound said_bound Any Any bound_laws) IsBoundValue six_at_most
+bound_limits = six_laws bounds.at_var in_bound bounds.made (finish bounds.bounds spell_bound said_bound Any Any bound_laws) IsBoundValue
 
 -- ---- values
 
 name_valued : (x : List ℕ) → AreLiterals (spell_name x) → (y : List ℕ) × (x ≡ y)
 name_valued x h = (x, refl)
 
-pub name_values : Values spell_name IsName SameName
-name_values = record { spells = λ x y e. ap spell_name e; spelled = λ ms y h. (y, h, refl); valued = name_valued }
+pub name_values : Values spell_name IsName SameName Any
+name_values = record { spells = λ x y g e. ap spell_name e; spelled = λ ms y h. (y, h, refl, tt); valued = λ x g h. name_valued x h }
 
 bound_spells : (b : Bound) (y : BoundTree) → IsBoundValue b y → IsBound (spell_bound b) y
 bound_spells b y (e, h) = (a_number b.text ∷ [], ap (λ z. a_name z ∷ the Within ∷ a_number b.text ∷ []) e, (b.text, refl, h))
@@ -147,5 +155,5 @@ bound_spelled ms y (rest, p, (text, q, h)) = (record { var = y.var; text = text 
 bound_valued : (b : Bound) → AreLiterals (spell_bound b) → (y : BoundTree) × IsBoundValue b y
 bound_valued b h = let one = literal_value b.text h.1.1.0 in (record { var = b.var; within = one.0 }, (refl, one.1))
 
-pub bound_values : Values spell_bound IsBound IsBoundValue
-bound_values = record { spells = bound_spells; spelled = bound_spelled; valued = bound_valued }
+pub bound_values : Values spell_bound IsBound IsBoundValue Any
+bound_values = record { spells = λ b y g h. bound_spells b y h; spelled = λ ms y h. (let s = bound_spelled ms y h in (s.0, s.1, s.2, tt)); valued = λ b g h. bound_valued b h }

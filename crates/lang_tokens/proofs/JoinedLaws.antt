@@ -1,7 +1,7 @@
 -- Reading items with commas between accepts what spells them and nothing else, each place can be completed, and limits are
 -- kept exactly where the items keep them.
 use Rattle.std.proofs.Common.{◌≡◌, inl, inr, ℕ, Bool, true, false, List, [], ◌∷◌, ◌++◌, Option, Some, None, Result, Ok, Err, refl, sym, ap, ◌∙◌, subst, append_assoc, zero, suc, ◌<◌, ◌≤◌, length, map, take, get_or, arith}
-use Rattle.std.specs.Prelude.{IfOk}
+use Rattle.std.specs.Prelude.{⊤, IfOk}
 use Rattle.std.proofs.lemmas.List.{append-nil}
 use Rattle.lang_specs.specs.declared.Which.{Which}
 use Rattle.lang_specs.specs.declared.Kind.TheVariants.{Comma, EndLine}
@@ -18,15 +18,32 @@ use Rattle.lang_tokens.proofs.LimitLemmas.{ArePlain, plain_append, plain_literal
 use Rattle.lang_tokens.proofs.LineLaws.{LineLaws, reads_start, reads_run, line_fault, line_within}
 use Rattle.lang_tokens.proofs.Walks.{IsClean, is_the, if_either, walk, and_walk, walk_on, walk_one, walk_step}
 
--- what is said of the machine of an item: how items are spelled, and what was read up to a place
-pub record Laws {P X : Type 0} (machine : Machine P X) (spell : X → List Mark) (said : P → List Mark) : Type 0 where
+-- what is said of the machine of an item: how items are spelled, what was read up to a place, which items are good ones, and
+-- which places come before such
+pub record Laws {P X : Type 0} (machine : Machine P X) (spell : X → List Mark) (said : P → List Mark) (Good : X → Type 0) (Fine : P → Type 0) : Type 0 where
   pub at_start : said machine.start ≡ []
   pub one_more : (p q : P) (m : Mark) → IsClean m → machine.next p m ≡ Some q → said q ≡ said p ++ m ∷ []
   pub complete : (p : P) (x : X) → machine.made p ≡ Some x → said p ≡ spell x
-  pub accepts : (x : X) → (p : P) × (walk machine.next machine.start (spell x) ≡ Some p) × (machine.made p ≡ Some x)
+  pub start_fine : Fine machine.start
+  pub stays_fine : (p q : P) (m : Mark) → Fine p → machine.next p m ≡ Some q → Fine q
+  pub made_good : (p : P) (x : X) → Fine p → machine.made p ≡ Some x → Good x
+  pub accepts : (x : X) → Good x → (p : P) × (walk machine.next machine.start (spell x) ≡ Some p) × (machine.made p ≡ Some x)
   pub no_comma : (p : P) (x : X) → machine.made p ≡ Some x → machine.next p (the Comma) ≡ None
   pub no_end : (p : P) (x : X) → machine.made p ≡ Some x → machine.next p (the EndLine) ≡ None
   pub finishes : (p : P) → (more : List Mark) × (x : X) × (said p ++ more ≡ spell x) × ArePlain more
+  pub finish_good : (p : P) → Fine p → Good (finishes p).1
+
+-- where no item and no place is a bad one
+abbrev pub Any : {A : Type 0} → A → Type 0
+Any x = ⊤
+
+abbrev pub AllGood : {X : Type 0} → (X → Type 0) → List X → Type 0
+AllGood Good [] = ⊤
+AllGood Good (x ∷ xs) = Good x × AllGood Good xs
+
+good_more : {X : Type 0} (Good : X → Type 0) (xs : List X) (x : X) → AllGood Good xs → Good x → AllGood Good (xs ++ x ∷ [])
+good_more Good [] x h g = (g, tt)
+good_more Good (y ∷ xs) x h g = (h.0, good_more Good xs x h.1 g)
 
 abbrev pub at : {P X : Type 0} → List X → P → Reading P X
 at done p = record { done = done; place = p; has_ended = false }
@@ -78,74 +95,80 @@ abbrev pub Spelled : {X : Type 0} → (X → List Mark) → List Mark → List X
 Spelled spell ms xs = IsSome xs × (ms ≡ joined spell xs)
 
 -- items as they are written and what they say
-pub record Values {X Y : Type 0} (spell : X → List Mark) (Is : List Mark → Y → Type 0) (Value : X → Y → Type 0) : Type 0 where
-  pub spells : (x : X) (y : Y) → Value x y → Is (spell x) y
-  pub spelled : (ms : List Mark) (y : Y) → Is ms y → (x : X) × (ms ≡ spell x) × Value x y
-  pub valued : (x : X) → AreLiterals (spell x) → (y : Y) × Value x y
+pub record Values {X Y : Type 0} (spell : X → List Mark) (Is : List Mark → Y → Type 0) (Value : X → Y → Type 0) (Good : X → Type 0) : Type 0 where
+  pub spells : (x : X) (y : Y) → Good x → Value x y → Is (spell x) y
+  pub spelled : (ms : List Mark) (y : Y) → Is ms y → (x : X) × (ms ≡ spell x) × Value x y × Good x
+  pub valued : (x : X) → Good x → AreLiterals (spell x) → (y : Y) × Value x y
 
-module _ {X Y : Type 0} (spell : X → List Mark) (Is : List Mark → Y → Type 0) (Value : X → Y → Type 0) (values : Values spell Is Value) where
-  pub joined_spells : (xs : List X) (ys : List Y) → IsSome xs → AllValues Value xs ys → AreJoined Is (joined spell xs) ys
+module _ {X Y : Type 0} (spell : X → List Mark) (Is : List Mark → Y → Type 0) (Value : X → Y → Type 0) (Good : X → Type 0) (values : Values spell Is Value Good) where
+  pub joined_spells : (xs : List X) (ys : List Y) → IsSome xs → AllGood Good xs → AllValues Value xs ys → AreJoined Is (joined spell xs) ys
   unfolding joined
-  joined_spells [] ys some h = absurd some
-  joined_spells (x ∷ []) [] some h = absurd h
-  joined_spells (x ∷ []) (y ∷ []) some h = values.spells x y h.0
-  joined_spells (x ∷ []) (y ∷ w ∷ ys) some h = absurd h.1
-  joined_spells (x ∷ z ∷ xs) [] some h = absurd h
-  joined_spells (x ∷ z ∷ xs) (y ∷ []) some h = absurd h.1
-  joined_spells (x ∷ z ∷ xs) (y ∷ w ∷ ys) some h = (spell x, joined spell (z ∷ xs), refl, values.spells x y h.0, joined_spells (z ∷ xs) (w ∷ ys) tt h.1)
+  joined_spells [] ys some g h = absurd some
+  joined_spells (x ∷ []) [] some g h = absurd h
+  joined_spells (x ∷ []) (y ∷ []) some g h = values.spells x y g.0 h.0
+  joined_spells (x ∷ []) (y ∷ w ∷ ys) some g h = absurd h.1
+  joined_spells (x ∷ z ∷ xs) [] some g h = absurd h
+  joined_spells (x ∷ z ∷ xs) (y ∷ []) some g h = absurd h.1
+  joined_spells (x ∷ z ∷ xs) (y ∷ w ∷ ys) some g h = (spell x, joined spell (z ∷ xs), refl, values.spells x y g.0 h.0, joined_spells (z ∷ xs) (w ∷ ys) tt g.1 h.1)
 
-  spelled_more : (ms front rest : List Mark) (y : Y) (ys : List Y) → ms ≡ front ++ the Comma ∷ rest → (x : X) → front ≡ spell x → Value x y →
-      (xs : List X) → (IsSome xs × (rest ≡ joined spell xs)) → AllValues Value xs ys → (zs : List X) × (IsSome zs × (ms ≡ joined spell zs)) × AllValues Value zs (y ∷ ys)
+  spelled_more : (ms front rest : List Mark) (y : Y) (ys : List Y) → ms ≡ front ++ the Comma ∷ rest → (x : X) → front ≡ spell x → Value x y → Good x →
+      (xs : List X) → (IsSome xs × (rest ≡ joined spell xs)) → AllValues Value xs ys → AllGood Good xs →
+      (zs : List X) × (IsSome zs × (ms ≡ joined spell zs)) × AllValues Value zs (y ∷ ys) × AllGood Good zs
   unfolding joined
-  spelled_more ms front rest y ys parts x e v [] some all = absurd some.0
-  spelled_more ms front rest y ys parts x e v (z ∷ xs) some all =
-      (x ∷ z ∷ xs, (tt, parts ∙ ap (λ w. w ++ the Comma ∷ rest) e ∙ ap (λ w. spell x ++ the Comma ∷ w) some.1), (v, all))
+  spelled_more ms front rest y ys parts x e v good [] some all goods = absurd some.0
+  spelled_more ms front rest y ys parts x e v good (z ∷ xs) some all goods =
+      (x ∷ z ∷ xs, (tt, parts ∙ ap (λ w. w ++ the Comma ∷ rest) e ∙ ap (λ w. spell x ++ the Comma ∷ w) some.1), (v, all), (good, goods))
 
-  pub joined_spelled : (ms : List Mark) (ys : List Y) → AreJoined Is ms ys → (xs : List X) × (IsSome xs × (ms ≡ joined spell xs)) × AllValues Value xs ys
+  pub joined_spelled : (ms : List Mark) (ys : List Y) → AreJoined Is ms ys → (xs : List X) × (IsSome xs × (ms ≡ joined spell xs)) × AllValues Value xs ys × AllGood Good xs
   unfolding joined
   joined_spelled ms [] h = absurd h
-  joined_spelled ms (y ∷ []) h = let one = values.spelled ms y h in (one.0 ∷ [], (tt, one.1), (one.2, tt))
+  joined_spelled ms (y ∷ []) h = let one = values.spelled ms y h in (one.0 ∷ [], (tt, one.1), (one.2, tt), (one.3, tt))
   joined_spelled ms (y ∷ w ∷ ys) (front, rest, parts, h, k) =
       let one = values.spelled front y h in
       let others = joined_spelled rest (w ∷ ys) k in
-      spelled_more ms front rest y (w ∷ ys) parts one.0 one.1 one.2 others.0 others.1 others.2
+      spelled_more ms front rest y (w ∷ ys) parts one.0 one.1 one.2 one.3 others.0 others.1 others.2 others.3
 
-  pub joined_valued : (xs : List X) → AreLiterals (joined spell xs) → (ys : List Y) × AllValues Value xs ys
+  pub joined_valued : (xs : List X) → AllGood Good xs → AreLiterals (joined spell xs) → (ys : List Y) × AllValues Value xs ys
   unfolding joined
-  joined_valued [] h = ([], tt)
-  joined_valued (x ∷ []) h = let one = values.valued x h in (one.0 ∷ [], (one.1, tt))
-  joined_valued (x ∷ z ∷ xs) h =
-      let one = values.valued x (literals_front (spell x) (the Comma ∷ joined spell (z ∷ xs)) h) in
-      let others = joined_valued (z ∷ xs) (literals_rest (spell x) (the Comma ∷ joined spell (z ∷ xs)) h).1 in
+  joined_valued [] g h = ([], tt)
+  joined_valued (x ∷ []) g h = let one = values.valued x g.0 h in (one.0 ∷ [], (one.1, tt))
+  joined_valued (x ∷ z ∷ xs) g h =
+      let one = values.valued x g.0 (literals_front (spell x) (the Comma ∷ joined spell (z ∷ xs)) h) in
+      let others = joined_valued (z ∷ xs) g.1 (literals_rest (spell x) (the Comma ∷ joined spell (z ∷ xs)) h).1 in
       (one.0 ∷ others.0, (one.1, others.1))
 
-module _ {P X : Type 0} (machine : Machine P X) (spell : X → List Mark) (said : P → List Mark) (laws : Laws machine spell said) where
+module _ {P X : Type 0} (machine : Machine P X) (spell : X → List Mark) (said : P → List Mark) (Good : X → Type 0) (Fine : P → Type 0) (laws : Laws machine spell said Good Fine) where
   -- what was read up to a state
   abbrev SaidBy : Bool → List X → P → List Mark → Type 0
-  SaidBy false done p ms = ms ≡ before spell done ++ said p
-  SaidBy true done p ms = IsSome done × (ms ≡ joined spell done ++ the EndLine ∷ [])
+  SaidBy false done p ms = (ms ≡ before spell done ++ said p) × AllGood Good done × Fine p
+  SaidBy true done p ms = IsSome done × (ms ≡ joined spell done ++ the EndLine ∷ []) × AllGood Good done
 
   abbrev Said : Reading P X → List Mark → Type 0
   Said s ms = SaidBy s.has_ended s.done s.place ms
 
   said_behind : (done : List X) (p : P) (x : X) (m : Mark) (u : Reading P X) (ms : List Mark) → IsClean m → machine.made p ≡ Some x →
-      ms ≡ before spell done ++ said p → behind_item machine done m (Some x) ≡ Some u → Said u (ms ++ m ∷ [])
+      SaidBy false done p ms → behind_item machine done m (Some x) ≡ Some u → Said u (ms ++ m ∷ [])
   said_behind done p x m u ms c made s e =
-      let spelled : ms ≡ before spell done ++ spell x = s ∙ ap (λ z. before spell done ++ z) (laws.complete p x made) in
+      let spelled : ms ≡ before spell done ++ spell x = s.0 ∙ ap (λ z. before spell done ++ z) (laws.complete p x made) in
+      let good = good_more Good done x s.1 (laws.made_good p x s.2 made) in
       elim (if_either (same_kind m.kind Comma) (same_kind m.kind EndLine) (record { done = done ++ x ∷ []; place = machine.start; has_ended = false })
       (record { done = done ++ x ∷ []; place = machine.start; has_ended = true }) u e) [
-        | inl h ↦ subst (λ v. Said v (ms ++ m ∷ [])) h.1
-            (rw (spelled, is_the m Comma c refl h.0) (append_assoc (before spell done) (spell x) (the Comma ∷ []) ∙ sym (before_more spell done x)
-            ∙ sym (append-nil (before spell (done ++ x ∷ []))) ∙ ap (λ z. before spell (done ++ x ∷ []) ++ z) (sym laws.at_start)))
+        | inl h ↦ subst (λ v. Said v (ms ++ m ∷ [])) h.1 (
+          (rw (spelled, is_the m Comma c refl h.0) (append_assoc (before spell done) (spell x) (the Comma ∷ []) ∙ sym (before_more spell done x)
+              ∙ sym (append-nil (before spell (done ++ x ∷ []))) ∙ ap (λ z. before spell (done ++ x ∷ []) ++ z) (sym laws.at_start))),
+          good,
+          laws.start_fine,
+        )
         | inr h ↦ subst (λ v. Said v (ms ++ m ∷ [])) h.1
-            (some_last done x, rw (spelled, is_the m EndLine c refl h.0) (ap (λ z. z ++ the EndLine ∷ []) (sym (joined_last spell done x))))
+            (some_last done x, (rw (spelled, is_the m EndLine c refl h.0) (ap (λ z. z ++ the EndLine ∷ []) (sym (joined_last spell done x)))), good)
       ]
 
   said_in : (done : List X) (p : P) (m : Mark) (o : Option P) (u : Reading P X) (ms : List Mark) → IsClean m → machine.next p m ≡ o →
-      ms ≡ before spell done ++ said p → in_item machine (record { done = done; place = p; has_ended = false }) m o ≡ Some u → Said u (ms ++ m ∷ [])
+      SaidBy false done p ms → in_item machine (record { done = done; place = p; has_ended = false }) m o ≡ Some u → Said u (ms ++ m ∷ [])
   said_in done p m (Some q) u ms c n s e =
       let is_u : record { done = done; place = q; has_ended = false } ≡ u = cc in
-      subst (λ v. Said v (ms ++ m ∷ [])) is_u (rw s (append_assoc (before spell done) (said p) (m ∷ []) ∙ ap (λ z. before spell done ++ z) (sym (laws.one_more p q m c n))))
+      subst (λ v. Said v (ms ++ m ∷ [])) is_u
+      (ap (λ z. z ++ m ∷ []) s.0 ∙ append_assoc (before spell done) (said p) (m ∷ []) ∙ ap (λ z. before spell done ++ z) (sym (laws.one_more p q m c n)), s.1, laws.stays_fine p q m s.2 n)
   said_in done p m None u ms c n s e =
       elim (machine.made p) as (λ o. machine.made p ≡ o → behind_item machine done m o ≡ Some u → Said u (ms ++ m ∷ [])) [
         | None ↦ λ h k. absurd cc
@@ -179,40 +202,40 @@ module _ {P X : Type 0} (machine : Machine P X) (spell : X → List Mark) (said 
   end_next : (done : List X) (p : P) (x : X) → machine.made p ≡ Some x → next machine (at done p) (the EndLine) ≡ Some (ended machine (done ++ x ∷ []))
   end_next done p x h = rw (laws.no_end p x h, h) refl
 
-  takes : (done : List X) (x : X) (xs : List X) → walk (next machine) (at done machine.start) (joined spell (x ∷ xs) ++ the EndLine ∷ []) ≡ Some (ended machine (done ++ x ∷ xs))
+  takes : (done : List X) (x : X) (xs : List X) → AllGood Good (x ∷ xs) → walk (next machine) (at done machine.start) (joined spell (x ∷ xs) ++ the EndLine ∷ []) ≡ Some (ended machine (done ++ x ∷ xs))
   unfolding joined
-  takes done x [] =
-      let one = laws.accepts x in
+  takes done x [] g =
+      let one = laws.accepts x g.0 in
       walk_on (next machine) (at done machine.start) (at done one.0) (spell x) (the EndLine ∷ []) (lift done machine.start one.0 (spell x) one.1)
       ∙ walk_one (next machine) (at done one.0) (the EndLine) ∙ end_next done one.0 x one.2
-  takes done x (y ∷ xs) =
-      let one = laws.accepts x in
+  takes done x (y ∷ xs) g =
+      let one = laws.accepts x g.0 in
       let more = joined spell (y ∷ xs) ++ the EndLine ∷ [] in
       ap (walk (next machine) (at done machine.start)) (append_assoc (spell x) (the Comma ∷ joined spell (y ∷ xs)) (the EndLine ∷ []))
       ∙ walk_on (next machine) (at done machine.start) (at done one.0) (spell x) (the Comma ∷ more) (lift done machine.start one.0 (spell x) one.1)
       ∙ walk_step (next machine) (at done one.0) (at (done ++ x ∷ []) machine.start) (the Comma) more (comma_next done one.0 x one.2)
-      ∙ takes (done ++ x ∷ []) y xs ∙ ap (λ z. Some (ended machine z)) (append_assoc done (x ∷ []) (y ∷ xs))
+      ∙ takes (done ++ x ∷ []) y xs g.1 ∙ ap (λ z. Some (ended machine z)) (append_assoc done (x ∷ []) (y ∷ xs))
 
-  taken : (xs : List X) → IsSome xs → walk (next machine) (start_of machine) (joined spell xs ++ the EndLine ∷ []) ≡ Some (ended machine xs)
-  taken [] h = absurd h
-  taken (x ∷ xs) h = takes [] x xs
+  taken : (xs : List X) → IsSome xs → AllGood Good xs → walk (next machine) (start_of machine) (joined spell xs ++ the EndLine ∷ []) ≡ Some (ended machine xs)
+  taken [] h g = absurd h
+  taken (x ∷ xs) h g = takes [] x xs g
 
   -- ---- what a line says, and where it says nothing
 
   abbrev pub finish : P → X
   finish p = (laws.finishes p).1
 
-  ended_said : (b : Bool) (done : List X) (p : P) (ms : List Mark) → b ≡ true → SaidBy b done p ms → IsLine (Spelled spell) ms done
-  ended_said true done p ms e h = (joined spell done, h.1, (h.0, refl))
+  ended_said : (b : Bool) (done : List X) (p : P) (ms : List Mark) → b ≡ true → SaidBy b done p ms → IsLine (Spelled spell) ms done × AllGood Good done
+  ended_said true done p ms e h = ((joined spell done, h.1, (h.0, refl)), h.2)
   ended_said false done p ms e h = absurd cc
 
-  module _ {Y : Type 0} (Is : List Mark → Y → Type 0) (Value : X → Y → Type 0) (values : Values spell Is Value) (keeps : Keeping (List Y)) (limits : LimitLaws machine finish Value keeps) where
+  module _ {Y : Type 0} (Is : List Mark → Y → Type 0) (Value : X → Y → Type 0) (values : Values spell Is Value Good) (keeps : Keeping (List Y)) (limits : LimitLaws machine finish Value keeps) where
     line_taken : (ms : List Mark) (ys : List Y) → IsLine (AreJoined Is) ms ys →
         (u : Reading P X) × (walk (next machine) (start_of machine) ms ≡ Some u) × ((which : Which) → keeps which ys ≡ true → machine.fits which u ≡ true)
     line_taken ms ys (inside, parts, h) =
-        let s = joined_spelled spell Is Value values inside ys h in
+        let s = joined_spelled spell Is Value Good values inside ys h in
         let whole : ms ≡ joined spell s.0 ++ the EndLine ∷ [] = parts ∙ ap (λ z. z ++ the EndLine ∷ []) s.1.1 in
-        (ended machine s.0, ap (walk (next machine) (start_of machine)) whole ∙ taken s.0 s.1.0, λ which k. limits.at_end which s.0 ys s.2 ∙ k)
+        (ended machine s.0, ap (walk (next machine) (start_of machine)) whole ∙ taken s.0 s.1.0 s.3, λ which k. limits.at_end which s.0 ys s.2 ∙ k)
 
     over_item : (which : Which) (done : List X) (p : P) (x : X) (m : Mark) (u : Reading P X) → machine.made p ≡ Some x → behind_item machine done m (Some x) ≡ Some u →
         machine.fits which u ≡ true → machine.fits which (at done p) ≡ true
@@ -243,29 +266,29 @@ module _ {P X : Type 0} (machine : Machine P X) (spell : X → List Mark) (said 
         (more : List Mark) × (ys : List Y) × IsLine (AreJoined Is) (ms ++ more) ys
         × ((which : Which) → machine.fits which s ≡ true → (keeps which ys ≡ true) × (marks_keep which more ≡ true))
 
-    valued : (s : Reading P X) (ms more : List Mark) (xs : List X) → AreLiterals ms → ArePlain more → IsLine (Spelled spell) (ms ++ more) xs →
+    valued : (s : Reading P X) (ms more : List Mark) (xs : List X) → AreLiterals ms → ArePlain more → IsLine (Spelled spell) (ms ++ more) xs → AllGood Good xs →
         ((which : Which) → machine.fits which s ≡ true → machine.fits which (ended machine xs) ≡ true) → Completes s ms
-    valued s ms more xs h k (inside, parts, (some, spelled)) f =
+    valued s ms more xs h k (inside, parts, (some, spelled)) good f =
         let whole : ms ++ more ≡ joined spell xs ++ the EndLine ∷ [] = parts ∙ ap (λ z. z ++ the EndLine ∷ []) spelled in
         let read = literals_front (joined spell xs) (the EndLine ∷ []) (subst AreLiterals whole (literals_append ms more h (plain_literals more k))) in
-        let ys = joined_valued spell Is Value values xs read in
-        (more, ys.0, (joined spell xs, whole, joined_spells spell Is Value values xs ys.0 some ys.1), λ which fits. (sym (limits.at_end which xs ys.0 ys.1) ∙ f which fits, plain_keep which more k))
+        let ys = joined_valued spell Is Value Good values xs good read in
+        (more, ys.0, (joined spell xs, whole, joined_spells spell Is Value Good values xs ys.0 some good ys.1), λ which fits. (sym (limits.at_end which xs ys.0 ys.1) ∙ f which fits, plain_keep which more k))
 
     completed : (b : Bool) (done : List X) (p : P) (ms : List Mark) → AreLiterals ms → SaidBy b done p ms → Completes (record { done = done; place = p; has_ended = b }) ms
     completed true done p ms read h =
-        valued (record { done = done; place = p; has_ended = true }) ms [] done read tt (joined spell done, append-nil ms ∙ h.1, (h.0, refl)) (λ which f. limits.ended_alike which done p f)
+        valued (record { done = done; place = p; has_ended = true }) ms [] done read tt (joined spell done, append-nil ms ∙ h.1, (h.0, refl)) h.2 (λ which f. limits.ended_alike which done p f)
     completed false done p ms read h =
         let f = laws.finishes p in
         let xs = done ++ f.1 ∷ [] in
         let parts : ms ++ f.0 ≡ joined spell xs =
-        ap (λ z. z ++ f.0) h ∙ append_assoc (before spell done) (said p) f.0 ∙ ap (λ z. before spell done ++ z) f.2 ∙ sym (joined_last spell done f.1) in
+        ap (λ z. z ++ f.0) h.0 ∙ append_assoc (before spell done) (said p) f.0 ∙ ap (λ z. before spell done ++ z) f.2 ∙ sym (joined_last spell done f.1) in
         valued (at done p) ms (f.0 ++ the EndLine ∷ []) xs read (plain_append f.0 (the EndLine ∷ []) f.3 (refl, tt))
-        (joined spell xs, sym (append_assoc ms f.0 (the EndLine ∷ [])) ∙ ap (λ z. z ++ the EndLine ∷ []) parts, (some_last done f.1, refl)) (λ which fits. limits.finished which done p fits)
+        (joined spell xs, sym (append_assoc ms f.0 (the EndLine ∷ [])) ∙ ap (λ z. z ++ the EndLine ∷ []) parts, (some_last done f.1, refl)) (good_more Good done f.1 h.1 (laws.finish_good p h.2)) (λ which fits. limits.finished which done p fits)
 
     pub line_laws : LineLaws (listed machine) Said (AreJoined Is) keeps
     unfolding before
     line_laws = record {
-      start_said = sym laws.at_start;
+      start_said = (sym laws.at_start, tt, laws.start_fine);
       start_fits = limits.at_start;
       said_next = said_next;
       taken = line_taken;
@@ -279,7 +302,7 @@ module _ {P X : Type 0} (machine : Machine P X) (spell : X → List Mark) (said 
     found u ts ys read e h v =
         let reads = reads_run (listed machine) Said (AreJoined Is) keeps line_laws (start_of machine) u ts [] (reads_start (listed machine) Said (AreJoined Is) keeps line_laws) read e in
         let line = ended_said u.has_ended u.done u.place (marks ts) h reads.said_so in
-        let says : IsLine (AreJoined Is) (marks ts) ys = (joined spell u.done, line.1 ∙ ap (λ z. z ++ the EndLine ∷ []) line.2.1, joined_spells spell Is Value values u.done ys line.2.0 v) in
+        let says : IsLine (AreJoined Is) (marks ts) ys = (joined spell u.done, line.0.1 ∙ ap (λ z. z ++ the EndLine ∷ []) line.0.2.1, joined_spells spell Is Value Good values u.done ys line.0.2.0 line.1 v) in
         line_within (listed machine) Said (AreJoined Is) keeps line_laws u ts ys read e says
         (λ which f. sym (limits.at_end which u.done ys v) ∙ limits.ended_alike which u.done u.place (subst (λ b. machine.fits which (record { done = u.done; place = u.place; has_ended = b }) ≡ true) h f))
 

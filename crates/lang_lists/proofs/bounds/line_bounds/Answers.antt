@@ -7,7 +7,7 @@ use Rattle.lang_tokens.specs.LineFaults.{marks, IsLineWithin}
 use Rattle.lang_lists.specs.BoundMachine.{bounds, IsBoundValue}
 use Rattle.lang_lists.specs.SixAtMost.{six_at_most}
 use Rattle.lang_lists.specs.BoundViews.{bound_of, reading_of}
-use Rattle.lang_tokens.proofs.JoinedLaws.{found, first_fault, if_ok}
+use Rattle.lang_tokens.proofs.JoinedLaws.{Any, found, first_fault, if_ok}
 use Rattle.lang_tokens.proofs.LimitLemmas.{not_false}
 use Rattle.lang_lists.proofs.NameLaws.{spell_bound, said_bound, bound_laws, bound_limits, bound_values}
 use Rattle.lang_lists.proofs.bounds.line_bounds.Goals as goal
@@ -15,7 +15,7 @@ use Rattle.lang_lists.proofs.bounds.line_bounds.Goals as goal
 pub returns-in_err-reader-clause-fault : goal.returns-in_err-reader-clause-fault
 returns-in_err-reader-clause-fault c =
     let p = err_from_is_err_and c.from_residual.result c.from_residual.ensures.1 in
-    rw (p.1, p.2) (first_fault bounds spell_bound said_bound bound_laws IsBound IsBoundValue bound_values six_at_most bound_limits (map (placed_of c.args.line) c.args.tokens.now) _ c.requires c.in_err-reader.ensures)
+    rw (p.1, p.2) (first_fault bounds spell_bound said_bound Any Any bound_laws IsBound IsBoundValue bound_values six_at_most bound_limits (map (placed_of c.args.line) c.args.tokens.now) _ c.requires c.in_err-reader.ensures)
 
 pub returns-clause-ok : goal.returns-clause-ok
 returns-clause-ok c =
@@ -23,5 +23,5 @@ returns-clause-ok c =
     let reader = c.in_ok-reader.reader in
     let has_ended : reader.has_ended ≡ true = first_of (assumption (c.if-not-reader.false), search (c.if-not-reader.false, not_false)) in
     if_ok (λ v. AllValues IsBoundValue (map bound_of c.deref.result.now) v.items) (λ v. IsLineWithin (AreJoined IsBound) six_at_most (marks ts) v.items) c.trees.result
-    (λ v h. found bounds spell_bound said_bound bound_laws IsBound IsBoundValue bound_values six_at_most bound_limits (reading_of reader) ts v.items c.requires c.in_ok-reader.ensures has_ended
+    (λ v h. found bounds spell_bound said_bound Any Any bound_laws IsBound IsBoundValue bound_values six_at_most bound_limits (reading_of reader) ts v.items c.requires c.in_ok-reader.ensures has_ended
     (subst (λ xs. AllValues IsBoundValue (map bound_of xs) v.items) c.deref.ensures.value h)) c.trees.ensures.ok

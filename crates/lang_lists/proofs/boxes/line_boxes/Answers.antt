@@ -6,7 +6,7 @@ use Rattle.lang_tokens.specs.Machines.{AllValues}
 use Rattle.lang_tokens.specs.LineFaults.{marks, IsLineWithin}
 use Rattle.lang_lists.specs.BoxMachine.{boxes, IsBoxValue, no_limits}
 use Rattle.lang_lists.specs.Views.{box_of, reading_of}
-use Rattle.lang_tokens.proofs.JoinedLaws.{found, first_fault, if_ok}
+use Rattle.lang_tokens.proofs.JoinedLaws.{Any, found, first_fault, if_ok}
 use Rattle.lang_tokens.proofs.LimitLemmas.{not_false}
 use Rattle.lang_lists.proofs.BoxLaws.{spell_box, said, box_laws, box_limits, box_values}
 use Rattle.lang_lists.proofs.boxes.line_boxes.Goals as goal
@@ -14,7 +14,7 @@ use Rattle.lang_lists.proofs.boxes.line_boxes.Goals as goal
 pub returns-in_err-reader-clause-fault : goal.returns-in_err-reader-clause-fault
 returns-in_err-reader-clause-fault c =
     let p = err_from_is_err_and c.from_residual.result c.from_residual.ensures.1 in
-    rw (p.1, p.2) (first_fault boxes spell_box said box_laws IsBox IsBoxValue box_values no_limits box_limits (map (placed_of c.args.line) c.args.tokens.now) _ c.requires c.in_err-reader.ensures)
+    rw (p.1, p.2) (first_fault boxes spell_box said Any Any box_laws IsBox IsBoxValue box_values no_limits box_limits (map (placed_of c.args.line) c.args.tokens.now) _ c.requires c.in_err-reader.ensures)
 
 pub returns-clause-ok : goal.returns-clause-ok
 returns-clause-ok c =
@@ -22,5 +22,5 @@ returns-clause-ok c =
     let reader = c.in_ok-reader.reader in
     let has_ended : reader.has_ended ≡ true = first_of (assumption (c.if-not-reader.false), search (c.if-not-reader.false, not_false)) in
     if_ok (λ v. AllValues IsBoxValue (map box_of c.deref.result.now) v.items) (λ v. IsLineWithin (AreJoined IsBox) no_limits (marks ts) v.items) c.trees.result
-    (λ v h. found boxes spell_box said box_laws IsBox IsBoxValue box_values no_limits box_limits (reading_of reader) ts v.items c.requires c.in_ok-reader.ensures has_ended
+    (λ v h. found boxes spell_box said Any Any box_laws IsBox IsBoxValue box_values no_limits box_limits (reading_of reader) ts v.items c.requires c.in_ok-reader.ensures has_ended
     (subst (λ xs. AllValues IsBoxValue (map box_of xs) v.items) c.deref.ensures.value h)) c.trees.ensures.ok
