@@ -1,0 +1,3 @@
+pub mod FromGrammar
+pub mod Rests
+pub mod ToGrammar

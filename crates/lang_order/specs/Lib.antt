@@ -1,0 +1,4 @@
+pub mod Statements
+pub mod Order
+pub mod Building
+pub mod ByLines
