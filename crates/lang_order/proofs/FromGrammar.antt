@@ -3,14 +3,14 @@ use Rattle.std.proofs.Common.{◌≡◌, ℕ, Bool, false, List, [], ◌∷◌, 
 use Rattle.lang_specs.specs.declared.Kind.TheVariants as kinds
 use Rattle.lang_specs.specs.Marks.{Mark, the, a_name, a_number, Lined, statement}
 use Rattle.lang_specs.specs.Trees.{RowsTree, BoxesTree, BoundsTree, LocTree, TransTree, Tree}
-use Rattle.lang_specs.specs.Expressions.{AreJoined, IsName, IsSome}
+use Rattle.lang_specs.specs.Expressions.{IsSome}
 use Rattle.lang_specs.specs.Grammar.{AreInOrder, IsRowsLine, IsFlow, unsafe_if, IsLoc, IsTrans, IsObs, IsTree, version, Spell}
 use Rattle.lang_order.specs.declared.Place.{Place}
 use Rattle.lang_order.specs.declared.Place.TheVariants as places
 use Rattle.lang_order.specs.Statements.{Statement, Version, Automaton, Vars, Obs, Loc, Init, Inv, Flow, Also, Trans, End, first_word, IsBody, Numbered, AreLines}
 use Rattle.lang_order.specs.Order.{next, Leads}
 use Rattle.lang_order.specs.Building.{Parts, trees_alone, put, parts_of}
-use Rattle.lang_order.specs.ByLines.{text_end, SpellByLines}
+use Rattle.lang_order.specs.ByLines.{SpellByLines}
 
 -- lines that lead from a place to the end of an automaton, and say these parts
 pub record From (v : Bool) (p : Place) (ls : List Lined) (parts : Parts) : Type 0 where

@@ -1,5 +1,5 @@
 -- What the grammar says of the rest of a text, by the place where it begins.
-use Rattle.std.proofs.Common.{◌≡◌, ℕ, Bool, false, List, [], ◌∷◌, ◌++◌, Option, None, refl, sym, ap, ◌∙◌, subst, append_assoc}
+use Rattle.std.proofs.Common.{◌≡◌, ℕ, Bool, false, List, [], ◌∷◌, ◌++◌, None, refl, sym, ap, ◌∙◌, subst, append_assoc}
 use Rattle.lang_specs.specs.declared.Kind.TheVariants as kinds
 use Rattle.lang_specs.specs.Marks.{Mark, the, a_name, Lined, statement}
 use Rattle.lang_specs.specs.Trees.{LocTree, TransTree, Tree}

@@ -1,10 +1,10 @@
 -- Lines in order are what the grammar spells, and build the same trees.
-use Rattle.std.proofs.Common.{◌≡◌, ℕ, Bool, true, false, List, [], ◌∷◌, ◌++◌, Option, Some, None, refl, sym, ap, ◌∙◌, subst, append_assoc}
+use Rattle.std.proofs.Common.{◌≡◌, ℕ, Bool, true, false, List, [], ◌∷◌, ◌++◌, Option, Some, None, refl, sym, ap, ◌∙◌, subst}
 use Rattle.lang_specs.specs.declared.Kind.{Kind}
 use Rattle.lang_specs.specs.declared.Kind.TheVariants as kinds
-use Rattle.lang_specs.specs.Marks.{Mark, the, a_name, a_number, Lined, statement}
+use Rattle.lang_specs.specs.Marks.{Mark, the, a_name, Lined, statement}
 use Rattle.lang_specs.specs.Trees.{RowTree, RowsTree, BoxTree, BoundTree, Act, TransTree, Tree}
-use Rattle.lang_specs.specs.Grammar.{AreInOrder, IsRowsLine, IsObs, IsTree, version, Spell}
+use Rattle.lang_specs.specs.Grammar.{AreInOrder, IsRowsLine, IsObs, IsTree, Spell}
 use Rattle.lang_specs.proofs.SplitLemmas.{apart}
 use Rattle.lang_order.specs.declared.Place.{Place}
 use Rattle.lang_order.specs.declared.Place.TheVariants as places
@@ -175,7 +175,7 @@ is_start : Place → Bool
 is_start places.Start = true
 is_start p = false
 
-not_start : {A : Type 0} → places.Start ≡ places.End → A
+pub not_start : {A : Type 0} → places.Start ≡ places.End → A
 unfolding is_start
 not_start e = apart (ap is_start e)
 

@@ -2,3 +2,5 @@ pub mod Statements
 pub mod Order
 pub mod Building
 pub mod ByLines
+pub mod LineLimits
+pub mod Beginnings
