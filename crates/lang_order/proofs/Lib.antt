@@ -6,3 +6,10 @@ pub mod Walks
 pub mod Completions
 pub mod TextsOn
 pub mod Viable
+pub mod ClearParts
+pub mod PartsKept
+pub mod CountsKept
+pub mod TokensKept
+pub mod LinesKept
+pub mod TextLimits
+pub mod Kept

@@ -4,11 +4,13 @@ ghost use Rattle.std.specs.Prelude.{◌↔◌, ℕ, List, ◌++◌};
 ghost use Rattle.lang_specs.specs.Marks.{Mark, Lined};
 ghost use Rattle.lang_specs.specs.Trees.{Tree};
 ghost use Rattle.lang_specs.specs.Grammar.{Spell};
-ghost use Rattle.lang_specs.specs.FirstFault.{IsViable};
+ghost use Rattle.lang_specs.specs.declared.Which.{Which};
+ghost use Rattle.lang_specs.specs.FirstFault.{IsViable, HasKept};
 ghost use Rattle.lang_order.specs.declared.Place.{Place};
 ghost use Rattle.lang_order.specs.Statements.{Numbered, is_second};
 ghost use Rattle.lang_order.specs.ByLines.{AreWholeLines, SpellByLines};
-ghost use Rattle.lang_order.specs.Beginnings.{in_line, IsOneLine, MayFollow};
+ghost use Rattle.lang_order.specs.LineLimits.{none_yet, counts_from, AreWholeLinesWithin};
+ghost use Rattle.lang_order.specs.Beginnings.{in_line, IsOneLine, MayFollow, LineHasKept};
 
 /// A text spells trees exactly where it is a list of lines in order, each of which says a statement, and the statements build the trees.
 pub fn texts_are_lines()
@@ -19,4 +21,11 @@ pub fn texts_are_lines()
 pub fn beginnings_by_lines()
     ensures { (ls : List Lined) (ss : List Numbered) (p : Place) → AreWholeLines ls ss p → (line : ℕ) (ms : List Mark) → IsOneLine ms →
         IsViable (ls ++ in_line line ms) ↔ MayFollow (is_second ss) p ms }
+{}
+
+/// Behind whole lines that keep to a limit, some tokens of the next line have not passed it exactly where the line can keep to it and is not one too many, or they end with a sign that joins a next item to such tokens.
+pub fn limits_by_lines()
+    ensures { (which : Which) (ls : List Lined) (ss : List Numbered) (p : Place) → AreWholeLinesWithin which ls ss p →
+        (line : ℕ) (ms : List Mark) → IsOneLine ms →
+        HasKept which (ls ++ in_line line ms) ↔ LineHasKept which (is_second ss) p (counts_from none_yet ss) ms }
 {}
