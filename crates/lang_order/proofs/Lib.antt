@@ -13,3 +13,4 @@ pub mod TokensKept
 pub mod LinesKept
 pub mod TextLimits
 pub mod Kept
+pub mod FirstFaults

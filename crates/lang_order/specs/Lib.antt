@@ -4,3 +4,4 @@ pub mod Building
 pub mod ByLines
 pub mod LineLimits
 pub mod Beginnings
+pub mod FaultsByLines

@@ -1,16 +1,20 @@
 //! What holds of texts, line by line.
 
-ghost use Rattle.std.specs.Prelude.{◌↔◌, ℕ, List, ◌++◌};
-ghost use Rattle.lang_specs.specs.Marks.{Mark, Lined};
+ghost use Rattle.std.specs.Prelude.{◌≡◌, ◌↔◌, ℕ, List, ◌++◌};
+ghost use Rattle.lang_specs.specs.Marks.{Mark, Lined, lined};
 ghost use Rattle.lang_specs.specs.Trees.{Tree};
 ghost use Rattle.lang_specs.specs.Grammar.{Spell};
 ghost use Rattle.lang_specs.specs.declared.Which.{Which};
-ghost use Rattle.lang_specs.specs.FirstFault.{IsViable, HasKept};
+ghost use Rattle.lang_specs.specs.Lines.{text_tokens};
+ghost use Rattle.lang_specs.specs.FirstFault.{IsSpelling, IsViable, HasKept, Fault, IsFirstFault};
 ghost use Rattle.lang_order.specs.declared.Place.{Place};
+ghost use Rattle.lang_order.specs.declared.Place.TheVariants as places;
 ghost use Rattle.lang_order.specs.Statements.{Numbered, is_second};
-ghost use Rattle.lang_order.specs.ByLines.{AreWholeLines, SpellByLines};
+ghost use Rattle.lang_order.specs.Building.{trees_of};
+ghost use Rattle.lang_order.specs.ByLines.{AreWholeLines, text_end, SpellByLines};
 ghost use Rattle.lang_order.specs.LineLimits.{none_yet, counts_from, AreWholeLinesWithin};
 ghost use Rattle.lang_order.specs.Beginnings.{in_line, IsOneLine, MayFollow, LineHasKept};
+ghost use Rattle.lang_order.specs.FaultsByLines.{AreReadLines, IsFaultByLines};
 
 /// A text spells trees exactly where it is a list of lines in order, each of which says a statement, and the statements build the trees.
 pub fn texts_are_lines()
@@ -28,4 +32,15 @@ pub fn limits_by_lines()
     ensures { (which : Which) (ls : List Lined) (ss : List Numbered) (p : Place) → AreWholeLinesWithin which ls ss p →
         (line : ℕ) (ms : List Mark) → IsOneLine ms →
         HasKept which (ls ++ in_line line ms) ↔ LineHasKept which (is_second ss) p (counts_from none_yet ss) ms }
+{}
+
+/// What is wrong in the line behind lines that were read is the first fault of the text.
+pub fn faults_by_lines()
+    ensures { (text : List ℕ) (fault : Fault) → IsFaultByLines text fault → IsFirstFault text fault }
+{}
+
+/// Where all lines were read, the last is an `end`, and the text ends, it spells the trees that the lines build.
+pub fn spellings_by_lines()
+    ensures { (text : List ℕ) (ls : List Lined) (ss : List Numbered) (last : ℕ) → AreReadLines ls ss places.End →
+        lined (text_tokens text) ≡ ls ++ text_end last → IsSpelling text (trees_of ss) }
 {}
