@@ -56,7 +56,7 @@ first_loc : (w : Which) (c : Counts) → Few w c → c.locs ≡ 0 → Few w (cou
 first_loc Locations c f e = ap (λ z. nat_le (z + 1) 32) e
 first_loc w c f e = f
 
-few_none : (w : Which) → Few w none_yet
+pub few_none : (w : Which) → Few w none_yet
 few_none Automata = refl
 few_none w = refl
 

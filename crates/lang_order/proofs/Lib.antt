@@ -14,3 +14,6 @@ pub mod LinesKept
 pub mod TextLimits
 pub mod Kept
 pub mod FirstFaults
+pub mod FirstWords
+pub mod BodyLemmas
+pub mod WordFaults

@@ -66,3 +66,12 @@ pub record IsFaultByLines (text : List ℕ) (fault : Fault) : Type 0 where
   pub viable : MayFollow (is_second says) place (marks front)
   pub kept : LineHasKeptAll (is_second says) place (counts_from none_yet says) (marks front)
   pub wrong : IsFaultOfLine (is_second says) place (counts_from none_yet says) (marks (front ++ token ∷ [])) token fault
+
+-- Whole lines of the text were read, and led to this place; behind them stand this token, and these in its line.
+pub record IsReadTo (text : List ℕ) (says : List Numbered) (place : Place) (word : Placed) (line : List Placed) : Type 0 where
+  pub whole : List Placed
+  pub rest : List Placed
+  pub parts : text_tokens text ≡ whole ++ word ∷ line ++ rest
+  pub read : AreReadLines (lined whole) says place
+  pub stand : StandIn word.line line
+  pub one : IsOneLine (marks (word ∷ line))

@@ -5,3 +5,4 @@ pub mod ByLines
 pub mod LineLimits
 pub mod Beginnings
 pub mod FaultsByLines
+pub mod Bodies

@@ -2,6 +2,7 @@
 #![tactic(auto)]
 
 pub mod laws;
+pub mod words;
 
 /// Where a text stands between two lines: behind which statement.
 #[derive(Clone, Copy, Debug, PartialEq, Eq)]
