@@ -17,3 +17,4 @@ pub mod FirstFaults
 pub mod FirstWords
 pub mod BodyLemmas
 pub mod WordFaults
+pub mod ReadLines

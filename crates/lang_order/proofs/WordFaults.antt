@@ -13,7 +13,7 @@ use Rattle.lang_specs.specs.FirstFault.{Fault, SyntaxAt, LimitAt, IsFirstFault}
 use Rattle.lang_specs.proofs.ListLemmas.{head_is, tail_is}
 use Rattle.lang_specs.proofs.SplitLemmas.{apart}
 use Rattle.lang_order.specs.declared.Place.{Place}
-use Rattle.lang_order.specs.Statements.{Automaton, Loc, Trans, first_word, Numbered, is_second}
+use Rattle.lang_order.specs.Statements.{Statement, Automaton, Obs, Loc, Trans, first_word, IsBody, Numbered, is_second}
 use Rattle.lang_order.specs.Order.{next}
 use Rattle.lang_order.specs.LineLimits.{Counts, none_yet, count, counts_from, are_few, StayFew}
 use Rattle.lang_order.specs.Beginnings.{IsOneLine, IsViableLine, EndsText, MayFollow, LineHasKept}
@@ -65,6 +65,29 @@ pub fault_of_order : (text : List ℕ) (says : List Numbered) (place : Place) (w
     next place word.kind ≡ None → (EndsText place (mark word ∷ []) → ⊥) → IsFirstFault text (SyntaxAt word.line word.column)
 fault_of_order text says place word line h d not_end =
     at_first text says place word line (SyntaxAt word.line word.column) h (no_line (is_second says) place word d not_end, refl, refl)
+
+is_obs : Kind → Bool
+is_obs kinds.Obs = true
+is_obs k = false
+
+no_obs : (s : Statement) (body : List Mark) → kinds.Obs ≡ first_word s → IsBody false body s → ⊥
+unfolding is_obs
+no_obs (Obs bounds) body e b = let c : false ≡ true = b.0 in apart (sym c)
+no_obs s body e b = apart (ap is_obs e)
+
+no_obs_line : (p : Place) (t : Placed) → t.kind ≡ kinds.Obs → MayFollow false p (mark t ∷ []) → ⊥
+unfolding is_obs
+no_obs_line p t k (inl e) = let b : ⊥ = cc in b
+no_obs_line p t k (inr (inl (e, f))) = apart (sym (ap is_obs k) ∙ ap (λ m. is_obs m.kind) (head_is (mark t) (the kinds.EndText) [] [] f))
+no_obs_line p t k (inr (inr (tail, s, (inside, e, ((body, f, b), g))))) =
+    let whole : mark t ∷ tail ≡ the (first_word s) ∷ (body ++ the kinds.EndLine ∷ []) = e ∙ ap (λ z. z ++ the kinds.EndLine ∷ []) f in
+    no_obs s body (sym k ∙ ap (λ m. m.kind) (head_is (mark t) (the (first_word s)) tail (body ++ the kinds.EndLine ∷ []) whole)) b
+
+pub fault_of_version : (text : List ℕ) (says : List Numbered) (place : Place) (word : Placed) (line : List Placed) → IsReadTo text says place word line →
+    is_second says ≡ false → word.kind ≡ kinds.Obs → IsFirstFault text (SyntaxAt word.line word.column)
+fault_of_version text says place word line h first k =
+    at_first text says place word line (SyntaxAt word.line word.column) h
+    (λ i. no_obs_line place word k (subst (λ z. MayFollow z place (mark word ∷ [])) first i), refl, refl)
 
 -- ---- one too many
 

@@ -2,6 +2,7 @@
 #![tactic(auto)]
 
 pub mod laws;
+pub mod reading;
 pub mod words;
 
 /// Where a text stands between two lines: behind which statement.

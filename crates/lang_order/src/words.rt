@@ -3,6 +3,7 @@
 ghost use Rattle.std.specs.Prelude.{◌≡◌, ◌↔◌, ℕ, Bool, false, IsTrue, List, [], ◌∷◌, Some, None};
 ghost use Rattle.lang_specs.specs.declared.Which.{Which};
 ghost use Rattle.lang_specs.specs.declared.Kind.{Kind};
+ghost use Rattle.lang_specs.specs.declared.Kind.TheVariants.{Obs};
 ghost use Rattle.lang_specs.specs.Tokens.{Placed};
 ghost use Rattle.lang_specs.specs.Marks.{Mark, mark, the};
 ghost use Rattle.lang_specs.specs.FirstFault.{Fault, SyntaxAt, LimitAt, IsFirstFault};
@@ -31,6 +32,12 @@ pub fn limits_behind_words()
 pub fn faults_of_order()
     ensures { (text : List ℕ) (says : List Numbered) (place : Place) (word : Placed) (line : List Placed) → IsReadTo text says place word line →
         next place word.kind ≡ None → (EndsText place (mark word ∷ []) → ⊥) → IsFirstFault text (SyntaxAt word.line word.column) }
+{}
+
+/// In the first version an `obs` is the first fault, wherever it begins a line.
+pub fn faults_of_version()
+    ensures { (text : List ℕ) (says : List Numbered) (place : Place) (word : Placed) (line : List Placed) → IsReadTo text says place word line →
+        is_second says ≡ false → word.kind ≡ Obs → IsFirstFault text (SyntaxAt word.line word.column) }
 {}
 
 /// An automaton, a location or a transition that is one too many is the first fault, at its first token.
