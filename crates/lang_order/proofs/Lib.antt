@@ -18,3 +18,5 @@ pub mod FirstWords
 pub mod BodyLemmas
 pub mod WordFaults
 pub mod ReadLines
+pub mod Things
+pub mod ExampleFaults

@@ -18,6 +18,10 @@ IsBodyBehind second word body s = (first_word s ≡ word) × IsBody second body 
 abbrev pub BodyKeeps : Which → List Mark → Statement → Type 0
 BodyKeeps which body s = IsTrue (line_keeps which body s)
 
+-- the same of a thing that the statement says
+abbrev pub KeepsAs : {X : Type 0} → (X → Statement) → Which → List Mark → X → Type 0
+KeepsAs says which body x = BodyKeeps which body (says x)
+
 -- ---- limits of one line, whatever it says
 
 -- the marks end with a sign that joins a next item to those before, which keep to a limit without it

@@ -1,7 +1,9 @@
 //! The model language line by line: what a line says, which may follow which, what they build, and what is wrong with them.
 #![tactic(auto)]
 
+pub mod examples;
 pub mod laws;
+pub mod lines;
 pub mod reading;
 pub mod words;
 
