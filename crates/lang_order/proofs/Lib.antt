@@ -20,3 +20,4 @@ pub mod WordFaults
 pub mod ReadLines
 pub mod Things
 pub mod ExampleFaults
+pub mod AddLemmas

@@ -6,3 +6,4 @@ pub mod LineLimits
 pub mod Beginnings
 pub mod FaultsByLines
 pub mod Bodies
+pub mod Adding

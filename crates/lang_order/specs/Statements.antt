@@ -35,8 +35,8 @@ first_word (Also rows) = kinds.Also
 first_word (Trans from to label guard acts) = kinds.Trans
 first_word End = kinds.End
 
--- Behind their first word the tokens of a line, without its end, say this. `obs`, and `<` and `>` but in `also`, stand in the
--- second version only.
+-- Behind their first word the tokens of a line, without its end, say this. `obs` and the signs `<` and `>` stand in the second
+-- version only, and these signs never in `also`.
 abbrev pub IsBody : Bool → List Mark → Statement → Type 0
 IsBody second ms (Version v) = ms ≡ a_number (version v) ∷ []
 IsBody second ms (Automaton name) = ms ≡ a_name name ∷ []

@@ -6,9 +6,17 @@ ghost use Rattle.lang_specs.specs.Marks.{Lined};
 ghost use Rattle.lang_order.specs.declared.Place.{Place};
 ghost use Rattle.lang_order.specs.declared.Place.TheVariants as places;
 ghost use Rattle.lang_order.specs.Statements.{first_word, Numbered, second_if, is_second};
-ghost use Rattle.lang_order.specs.Order.{next};
+ghost use Rattle.lang_order.specs.Order.{next, Leads};
+ghost use Rattle.lang_order.specs.Building.{trees_of};
+ghost use Rattle.lang_order.specs.Adding.{add};
 ghost use Rattle.lang_order.specs.LineLimits.{none_yet, count, counts_from, are_few};
 ghost use Rattle.lang_order.specs.FaultsByLines.{IsReadLine, AreReadLines};
+
+/// One more line adds to the last automaton, or to its last location.
+pub fn one_more_line_adds()
+    ensures { (ss : List Numbered) (p q : Place) (s : Numbered) → Leads places.Start ss p → next p (first_word s.says) ≡ Some q →
+        trees_of (ss ++ s ∷ []) ≡ add s.line s.says (trees_of ss) }
+{}
 
 /// Before the first line nothing was read.
 pub fn nothing_is_read()
