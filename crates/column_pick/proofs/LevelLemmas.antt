@@ -26,3 +26,14 @@ level_of l x are from within =
 -- the whole system has its width
 pub whole_wide : (first : ℕ) (s : System) (l : Levels) → AreLevels first s l → first ≤ s.width → AllWide s.width s.rows
 whole_wide first s l are fits = subst (λ t. AllWide s.width t.rows) are.whole (are.each (s.width - first) (omega (arith, fits))).wide
+
+-- ---- the levels of a system that is known
+
+pub whole_is : (first : ℕ) (s : System) (l : Levels) → AreLevels first s l → whole_of l ≡ s
+whole_is first s l are =
+    let last : length l.systems - 1 ≡ s.width - first = (let n = are.one_for_each in omega (arith, n)) in
+    ap (λ i. get_or l.systems i no_system) last ∙ are.whole
+
+pub own_levels : (first : ℕ) (s : System) (l : Levels) → AreLevels first s l → AreLevels l.first (whole_of l) l
+own_levels first s l are =
+    subst (λ t. AreLevels l.first t l) (sym (whole_is first s l are)) (subst (λ f. AreLevels f s l) (sym are.from_first) are)

@@ -11,3 +11,4 @@ pub mod EvalLemmas
 pub mod ColumnLemmas
 pub mod SoFarLemmas
 pub mod StartLemmas
+pub mod TestLemmas

@@ -9,6 +9,8 @@ mod parts;
 mod picking;
 mod picks;
 mod ranges;
+#[cfg(test)]
+mod tests;
 mod wholes;
 
 pub use picking::pick;
