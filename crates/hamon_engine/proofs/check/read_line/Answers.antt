@@ -19,8 +19,7 @@ returns-in-Ok-true-clause-says g c before out writes i =
     let k = x.2 in
     let adds =
     subst (AddsBlock c.args.session.now.model i.2.at i.2.replies c.in-Ok.line c.args.pending.now.items c.add_block.new.pending.items c.args.session.now c.add_block.new.session)
-    c.in-Ok-true.field-0-test (c.in-Ok-true.ensures.ok i.2.at i.2.replies i.2.stands) in
-    (
+    c.in-Ok-true.field-0-test (c.in-Ok-true.ensures.ok i.2.at i.2.replies i.2.stands) in (
       x.0,
       x.1,
       goes_on c.args.session.now.model before _ _ out _ _ writes i.0 x.0 c.args.session.now c.add_block.new.session
