@@ -139,11 +139,11 @@ module _ {X Y : Type 0} (spell : X → List Mark) (Is : List Mark → Y → Type
 
 module _ {P X : Type 0} (machine : Machine P X) (spell : X → List Mark) (said : P → List Mark) (Good : X → Type 0) (Fine : P → Type 0) (laws : Laws machine spell said Good Fine) where
   -- what was read up to a state
-  abbrev SaidBy : Bool → List X → P → List Mark → Type 0
+  abbrev pub SaidBy : Bool → List X → P → List Mark → Type 0
   SaidBy false done p ms = (ms ≡ before spell done ++ said p) × AllGood Good done × Fine p
   SaidBy true done p ms = IsSome done × (ms ≡ joined spell done ++ the EndLine ∷ []) × AllGood Good done
 
-  abbrev Said : Reading P X → List Mark → Type 0
+  abbrev pub Said : Reading P X → List Mark → Type 0
   Said s ms = SaidBy s.has_ended s.done s.place ms
 
   said_behind : (done : List X) (p : P) (x : X) (m : Mark) (u : Reading P X) (ms : List Mark) → IsClean m → machine.made p ≡ Some x →
@@ -225,7 +225,7 @@ module _ {P X : Type 0} (machine : Machine P X) (spell : X → List Mark) (said 
   abbrev pub finish : P → X
   finish p = (laws.finishes p).1
 
-  ended_said : (b : Bool) (done : List X) (p : P) (ms : List Mark) → b ≡ true → SaidBy b done p ms → IsLine (Spelled spell) ms done × AllGood Good done
+  pub ended_said : (b : Bool) (done : List X) (p : P) (ms : List Mark) → b ≡ true → SaidBy b done p ms → IsLine (Spelled spell) ms done × AllGood Good done
   ended_said true done p ms e h = ((joined spell done, h.1, (h.0, refl)), h.2)
   ended_said false done p ms e h = absurd cc
 

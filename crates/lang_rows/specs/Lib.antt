@@ -1,0 +1,4 @@
+pub mod ExprMachine
+pub mod RowMachine
+pub mod Texts
+pub mod Views

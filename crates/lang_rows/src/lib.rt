@@ -1,0 +1,10 @@
+//! Lines of a model that are lists of constraints: each is read a token at a time.
+#![tactic(auto)]
+
+mod expressions;
+mod rows;
+
+pub use rows::{line_rows, rows_of_line};
+
+#[cfg(test)]
+mod tests;
