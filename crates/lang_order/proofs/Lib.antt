@@ -21,3 +21,4 @@ pub mod ReadLines
 pub mod Things
 pub mod ExampleFaults
 pub mod AddLemmas
+pub mod LineTokens

@@ -1,7 +1,8 @@
 //! Reading a text a line at a time.
 
-ghost use Rattle.std.specs.Prelude.{◌≡◌, IsTrue, List, [], ◌∷◌, ◌++◌, Some};
+ghost use Rattle.std.specs.Prelude.{◌≡◌, ℕ, IsTrue, List, [], ◌∷◌, ◌++◌, Some};
 ghost use Rattle.lang_specs.specs.declared.Which.{Which};
+ghost use Rattle.lang_specs.specs.Tokens.{line_tokens};
 ghost use Rattle.lang_specs.specs.Marks.{Lined};
 ghost use Rattle.lang_order.specs.declared.Place.{Place};
 ghost use Rattle.lang_order.specs.declared.Place.TheVariants as places;
@@ -10,7 +11,13 @@ ghost use Rattle.lang_order.specs.Order.{next, Leads};
 ghost use Rattle.lang_order.specs.Building.{trees_of};
 ghost use Rattle.lang_order.specs.Adding.{add};
 ghost use Rattle.lang_order.specs.LineLimits.{none_yet, count, counts_from, are_few};
-ghost use Rattle.lang_order.specs.FaultsByLines.{IsReadLine, AreReadLines};
+ghost use Rattle.lang_order.specs.Beginnings.{IsOneLine};
+ghost use Rattle.lang_order.specs.FaultsByLines.{IsReadLine, AreReadLines, marks, StandIn};
+
+/// The tokens of a line stand in it, and its end is the last of them.
+pub fn tokens_stand_in_their_line()
+    ensures { (line : ℕ) (bytes : List ℕ) → StandIn line (line_tokens line bytes) × IsOneLine (marks (line_tokens line bytes)) }
+{}
 
 /// One more line adds to the last automaton, or to its last location.
 pub fn one_more_line_adds()
