@@ -32,7 +32,7 @@ raw_free x j l u h e zl zu =
     let b : coef_at j (times (pos m) u) ≡ pos m *ℤ pos 0 = coef-times (pos m) u j (omega arith) ∙ ap (λ z. pos m *ℤ z) zu in
     get_or-plus (times (pos k) l).coef (times (pos m) u).coef j sized ∙ omega (arith, ints, a, b)
 
-pub free_stays : (w x j : ℕ) (rows : List Row) → j < w → AllWide w rows → AreFreeOf j rows → (r : Row) → In r (eliminated x rows) → coef_at j r ≡ pos 0
+free_stays : (w x j : ℕ) (rows : List Row) → j < w → AllWide w rows → AreFreeOf j rows → (r : Row) → In r (eliminated x rows) → coef_at j r ≡ pos 0
 unfolding eliminated
 free_stays w x j rows h wide free r i = elim (in_either r (free_of x rows) _ i) [
   | inl k ↦ each_in (λ s. coef_at j s ≡ pos 0) rows free r (out_filter (λ s. unsigned_abs (coef_at x s) == 0) r rows k).0
@@ -50,7 +50,7 @@ free_stays w x j rows h wide free r i = elim (in_either r (free_of x rows) _ i) 
 
 -- ---- one more column, from the right
 
-pub each_wide : (w : ℕ) (columns : List ℕ) (rows : List Row) → AllWide w rows → AllWide w (eliminated_each columns rows)
+each_wide : (w : ℕ) (columns : List ℕ) (rows : List Row) → AllWide w rows → AllWide w (eliminated_each columns rows)
 each_wide w [] rows h = h
 each_wide w (x ∷ columns) rows h = each_wide w columns (eliminated x rows) (eliminated_wide w x rows h)
 

@@ -30,10 +30,10 @@ place_of_number [] n h = absurd h
 place_of_number (m ∷ ns) n (inl e) = (0, omega arith, sym e)
 place_of_number (m ∷ ns) n (inr i) = let (k, h, e) = place_of_number ns n i in (suc k, omega arith, e)
 
-pub passes_more : (ns ms : List ℤ) → IsAmong ns ms → SomePasses ns → SomePasses ms
+passes_more : (ns ms : List ℤ) → IsAmong ns ms → SomePasses ns → SomePasses ms
 passes_more ns ms among (k, n, h, e, p) = let (j, g, f) = place_of_number ms n (among n (number_in ns k n h e)) in (j, n, g, f, p)
 
-pub numbers_more : (columns : List ℕ) (again : List Row) (left : ℕ) (sums : List ℤ) (rows more : List Row) → IsAmong rows more →
+numbers_more : (columns : List ℕ) (again : List Row) (left : ℕ) (sums : List ℤ) (rows more : List Row) → IsAmong rows more →
     IsAmong (stage_numbers (record { rows = rows; columns = columns; again = again; left = left; sums = sums }))
     (stage_numbers (record { rows = more; columns = columns; again = again; left = left; sums = sums }))
 unfolding stage_numbers
@@ -65,7 +65,7 @@ pub record IsReduced (n : ℕ) (rows more : List Row) : Type 0 where
   pub more_wide : AllWide n more
 
 module _ (a : Automaton) (wf : IsWellFormed a) where
-  pub leg_within : (l : ℕ) (rows more : List Row) → l < length a.locations → AllWide (width a + 1) rows → AllWide (width a + 1) more → IsWithin (width a + 1) rows more →
+  leg_within : (l : ℕ) (rows more : List Row) → l < length a.locations → AllWide (width a + 1) rows → AllWide (width a + 1) more → IsWithin (width a + 1) rows more →
       IsWithin (width a + 1) (rows_after (leg_stage a l rows)) (rows_after (leg_stage a l more))
   leg_within l rows more hl wr wm within p hp lp h =
       let is = location_is a wf l hl in
@@ -77,7 +77,7 @@ module _ (a : Automaton) (wf : IsWellFormed a) where
           let starts = within (over d (b ++ (elapsed -ℤ t) ∷ [])) s.positive (omega (arith, length-append b ((elapsed -ℤ t) ∷ []), lb)) s.starts in
           (d, q, elapsed, t, b, record { positive = s.positive; sized = s.sized; starts = starts; leg = s.leg; ends = s.ends })
 
-  pub jump_within : (e : ℕ) (rows more : List Row) → e < length a.transitions → AllWide (width a + 1) rows → AllWide (width a + 1) more → IsWithin (width a + 1) rows more →
+  jump_within : (e : ℕ) (rows more : List Row) → e < length a.transitions → AllWide (width a + 1) rows → AllWide (width a + 1) more → IsWithin (width a + 1) rows more →
       IsWithin (width a + 1) (rows_after (jump_stage a e rows)) (rows_after (jump_stage a e more))
   jump_within e rows more he wr wm within p hp lp h =
       let t = transition_is a wf e he in

@@ -74,7 +74,7 @@ cut_same n (r ∷ rows) wide =
     let same : take n r.coef ≡ r.coef = take_all n r.coef (omega (arith, All-head (λ (s : Row). length s.coef ≡ n) r rows wide)) in
     ap₂ (λ (cs : List ℤ) (ss : List Row). record r { coef = cs } ∷ ss) same (cut_same n rows (All-tail (λ (s : Row). length s.coef ≡ n) r rows wide))
 
-pub opening_rows_are : (a : Automaton) (l : ℕ) (init : List Row) → AllWide (width a) (init ++ (location_at a l).invariant) →
+opening_rows_are : (a : Automaton) (l : ℕ) (init : List Row) → AllWide (width a) (init ++ (location_at a l).invariant) →
     rows_after (opening_stage a l init) ≡ init ++ (location_at a l).invariant
 unfolding rows_after
 opening_rows_are a l init wide = cut_same (width a) (init ++ (location_at a l).invariant) wide
@@ -204,7 +204,7 @@ items_histories before t s key items wf is gap exact old x i =
 
 -- ---- an entry that passed
 
-pub reached_first : (xs ys : List Stage) → SomeReachedPasses xs → SomeReachedPasses (xs ++ ys)
+reached_first : (xs ys : List Stage) → SomeReachedPasses xs → SomeReachedPasses (xs ++ ys)
 reached_first [] ys h = absurd h
 reached_first (x ∷ xs) ys (inl p) = inl p
 reached_first (x ∷ xs) ys (inr h) = inr (h.0, reached_first xs ys h.1)

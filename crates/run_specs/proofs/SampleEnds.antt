@@ -47,9 +47,9 @@ exactly w (Some v) e = let z : unsigned_abs w.num ≡ 0 = eqb-true _ _ e in (v, 
 
 -- ---- the rows of observed values
 
-pub record IsNearRow (m : ℕ) (r : Row) : Type 0 where
-  pub wide : length r.coef ≡ m + 1
-  pub free : coef_at m r ≡ pos 0
+record IsNearRow (m : ℕ) (r : Row) : Type 0 where
+  wide : length r.coef ≡ m + 1
+  free : coef_at m r ≡ pos 0
 
 zero_at : (n j : ℕ) → number_at j (zeros n) ≡ pos 0
 zero_at zero j = refl
@@ -65,7 +65,7 @@ column_row m j c b h =
       free = divided_without m (row_of (m + 1) j c b) (omega (arith, l)) z;
     }
 
-pub near_row : (m j : ℕ) (w : Fraction) (cell : Option Fraction) (r : Row) → j < m → In r (near_rows (m + 1) j w cell) → IsNearRow m r
+near_row : (m j : ℕ) (w : Fraction) (cell : Option Fraction) (r : Row) → j < m → In r (near_rows (m + 1) j w cell) → IsNearRow m r
 near_row m j w None r h i = absurd i
 near_row m j w (Some v) r h (inl e) = subst (IsNearRow m) (sym e) (column_row m j _ _ h)
 near_row m j w (Some v) r h (inr (inl e)) = subst (IsNearRow m) (sym e) (column_row m j _ _ h)

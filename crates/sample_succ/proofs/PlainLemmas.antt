@@ -9,12 +9,13 @@ use Rattle.poly_specs.proofs.DownLemmas.{column_projected}
 use Rattle.poly_specs.proofs.EliminationLemmas.{out_flat_map, width_in}
 use Rattle.poly_specs.proofs.InclusionLemmas.{in_left, in_right, in_either, out_filter, among_append, among_map, among_eliminated_each, among_formed_each}
 use Rattle.fm_eliminate.proofs.LeavingLemmas.{all_from_in}
-use Rattle.fm_eliminate.proofs.LevelLemmas.{free_stays, each_wide}
+use Rattle.sample_succ.proofs.FreeColumns.{free_stays, each_wide}
 use Rattle.fm_eliminate.proofs.PivotLemmas.{each_in}
 use Rattle.run_specs.proofs.EndLemmas.{all_cut, wide_both}
-use Rattle.run_specs.proofs.GapPasses.{passes_more}
+use Rattle.sample_succ.proofs.StageFacts.{passes_more}
 use Rattle.run_specs.proofs.PassesLemmas.{same_in}
-use Rattle.run_specs.proofs.SampleEnds.{IsNearRow, near_row, sample_wide}
+use Rattle.run_specs.proofs.SampleEnds.{sample_wide}
+use Rattle.sample_succ.proofs.StageFacts.{IsNearRow, near_row}
 use Rattle.run_specs.proofs.SampleLemmas.{out_below}
 use Rattle.run_specs.proofs.StageLemmas.{holds_both, length-zeros}
 use Rattle.poly_specs.specs.Bits.{SomePasses}

@@ -7,7 +7,7 @@ use Rattle.std.proofs.lemmas.List.{append-nil}
 use Rattle.std.proofs.lemmas.List.Elements.{All-from_recursion}
 use Rattle.poly_specs.proofs.InclusionLemmas.{in_flat_map}
 use Rattle.poly_specs.proofs.LowestLemmas.{least_sum-IsFraction, lowest-least_sum}
-use Rattle.run_specs.proofs.GapPasses.{passes_more}
+use Rattle.sample_succ.proofs.StageFacts.{passes_more}
 use Rattle.run_specs.proofs.SampleLemmas.{in_below}
 use Rattle.run_specs.proofs.ScaledRows.{at_most-lowest, at_least-lowest}
 use Rattle.stage_rows.proofs.RespellingLemmas.{of_zeros}

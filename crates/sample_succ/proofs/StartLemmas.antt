@@ -5,7 +5,7 @@ use Rattle.std.proofs.lemmas.Bool.{cases_lt}
 use Rattle.std.proofs.lemmas.List.{get_or_past}
 use Rattle.poly_specs.proofs.InclusionLemmas.{in_left, in_right, in_either}
 use Rattle.run_specs.proofs.EndLemmas.{wide_both}
-use Rattle.run_specs.proofs.OverflowLemmas.{opening_rows_are}
+use Rattle.sample_succ.proofs.StageFacts.{opening_rows_are}
 use Rattle.run_specs.proofs.PassesLemmas.{same_in}
 use Rattle.run_specs.proofs.StageWidths.{location_is}
 use Rattle.poly_specs.specs.Bits.{SomePasses}

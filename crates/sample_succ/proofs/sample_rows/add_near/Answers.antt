@@ -3,7 +3,7 @@ use Rattle.poly_specs.proofs.InclusionLemmas.{in_right}
 use Rattle.poly_specs.specs.Arithmetic.{sum_numbers}
 use Rattle.poly_specs.specs.Bits.{SomePasses}
 use Rattle.poly_specs.specs.Fractions.{opposite}
-use Rattle.run_specs.proofs.GapPasses.{passes_more}
+use Rattle.sample_succ.proofs.StageFacts.{passes_more}
 use Rattle.run_specs.specs.Stages.{near_sums}
 use Rattle.sample_succ.proofs.sample_rows.add_near.Goals as goal
 
