@@ -17,6 +17,7 @@ use succ_memo::Held;
 ///
 /// Each entry's key has the session's automaton and number of jumps, and the states that the entry
 /// before leaves. Only a session makes one.
+#[derive(Drop)]
 pub struct History<'a> {
     pub(crate) automaton: &'a Arc<Automaton>,
     pub(crate) jumps: u8,

@@ -37,6 +37,7 @@ use succ_memo::Held;
 
 /// A session: its columns, the samples that it accepted, what it remembers of their gaps, and
 /// maybe a sample that is begun.
+#[derive(Drop)]
 pub struct Session {
     automaton: Arc<Automaton>,
     jumps: u8,
