@@ -12,3 +12,4 @@ pub mod WalkLemmas
 pub mod StepLemmas
 pub mod VisitLemmas
 pub mod GapStartLemmas
+pub mod PartLemmas

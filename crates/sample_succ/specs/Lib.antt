@@ -2,3 +2,4 @@ pub mod Plain
 pub mod Starts
 pub mod Covers
 pub mod Walks
+pub mod Parts

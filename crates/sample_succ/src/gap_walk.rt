@@ -143,6 +143,7 @@ fn next_node(
     })
 }
 
+/// The number of the location that it leaves.
 fn source_of(key: &Key, e: u8) -> u8
     requires { e < length key.now.automaton.transitions }
     ensures { result ≡ (transition_at key.now.automaton e).source }
@@ -150,7 +151,8 @@ fn source_of(key: &Key, e: u8) -> u8
     automaton_of(key).trans()[usize::from(e)].from()
 }
 
-fn target_of(key: &Key, e: u8) -> u8
+/// The number of the location that a transition enters.
+pub fn target_of(key: &Key, e: u8) -> u8
     requires { e < length key.now.automaton.transitions }
     ensures target { result ≡ (transition_at key.now.automaton e).target }
     ensures known { result < length key.now.automaton.locations }

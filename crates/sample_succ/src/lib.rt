@@ -3,6 +3,7 @@
 
 mod covering;
 mod finding;
+mod gap_parts;
 mod gap_starts;
 mod gap_step;
 mod gap_walk;
@@ -10,6 +11,8 @@ mod sample_rows;
 mod sampling;
 mod start;
 mod stepping;
+#[cfg(test)]
+mod tests;
 
 ghost use Rattle.std.specs.Prelude.{◌≡◌, ◌↔◌, ℕ, List, length, pos, ◌<ℤ◌};
 ghost use Rattle.poly_specs.specs.Rows.{Point, AllHold};
@@ -20,6 +23,7 @@ ghost use Rattle.run_specs.specs.Stages.{gap_rows};
 ghost use Rattle.run_specs.specs.WellFormed.{IsWellFormed};
 
 pub use gap_keys::{Belief, Item, Key, Next, Outcome, State};
+pub use gap_parts::stages;
 pub use gap_step::step;
 pub use sampling::sample_stage;
 pub use start::opening;
