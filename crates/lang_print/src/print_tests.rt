@@ -1,7 +1,11 @@
 //! Printed texts of small trees.
 
-use super::*;
+use crate::print_models;
 use frac128::Frac;
+use lang_trees::{
+    ActParts, ActTree, BoundTree, BoundsTree, BoxTree, BoxesTree, Expr, LocTree, RowTree, RowsTree,
+    Sign, Term, TransTree, Tree,
+};
 use lha_model::Name;
 use std::alloc::{AllocError, Global};
 use std::test::Fail;
