@@ -3,7 +3,5 @@
 
 mod pages;
 mod print;
-#[cfg(test)]
-mod print_tests;
 
 pub use print::print_models;
