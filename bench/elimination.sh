@@ -5,11 +5,7 @@ here=$(CDPATH='' cd -- "$(dirname -- "$0")/.." && pwd)
 crate=$here/crates/elimination_bench
 rounds=1000
 
-# Proves and builds the program where that is owed, and runs it once.
-if ! told=$(cd "$crate" && rt run 2>&1); then
-    printf '%s\n' "$told" >&2
-    exit 1
-fi
+"$here/bench/build.sh" elimination_bench
 
 begin=$(date +%s%N)
 "$crate/out/elimination_bench"

@@ -6,11 +6,7 @@ here=$(CDPATH='' cd -- "$(dirname -- "$0")/.." && pwd)
 crate=$here/crates/reading_bench
 rows=1000000
 
-# Proves and builds the program where that is owed, and runs it once.
-if ! told=$(cd "$crate" && rt run 2>&1); then
-    printf '%s\n' "$told" >&2
-    exit 1
-fi
+"$here/bench/build.sh" reading_bench
 
 # The last line of `times` has the minutes and seconds of the program, and of the system for it.
 told=$("$crate/out/reading_bench" && times)
