@@ -1,13 +1,15 @@
 //! The combination of two rows in which a column cancels.
 
-ghost use Rattle.std.specs.Prelude.{◌≡◌, ◌↔◌, ◌/◌, ◌≤◌, ◌||◌, All, IsSome, IfSome, IfOk, IfErr, [], length, map, pos, ◌<ℤ◌, ◌*ℤ◌, ◌+ℤ◌, unsigned_abs};
+ghost use Rattle.std.specs.Prelude.{◌≡◌, ◌↔◌, ◌/◌, ◌≤◌, ◌<◌, ◌^◌, ◌||◌, All, IsSome, IfSome, IfOk, IfErr, [], length, map, pos, ◌<ℤ◌, ◌*ℤ◌, ◌+ℤ◌, unsigned_abs};
 ghost use Rattle.poly_specs.specs.Bits.{FitsBits, NonePasses, SomePasses};
 ghost use Rattle.poly_specs.specs.Elimination.{gcd, times, added, raw_combination, combination, pair_numbers};
 ghost use Rattle.poly_specs.specs.Lists.{plus};
 ghost use Rattle.poly_specs.specs.Rows.{Point, Holds, coef_at};
 ghost use Rattle.lin_row.specs.Mixing.{RowsFit, mixed_numbers};
 
-use crate::numbers::{greatest_divisor, reduce, sum_of_two, whole_part};
+use crate::numbers::{
+    all_small, greatest_divisor, is_small, reduce, small_sum, sum_of_two, whole_part,
+};
 use crate::{Passes, Row};
 use smallvec::SmallVec;
 
@@ -99,6 +101,47 @@ fn factors(lower: i128, upper: i128) -> (i128, i128)
 
 /// Fills in the sums of the coefficients' multiples. `None` where one of the three passes 128 bits.
 fn mixed_coef(
+    sums: &mut SmallVec<i128, 14>,
+    p: i128,
+    lower: &[i128],
+    q: i128,
+    upper: &[i128],
+) -> Option<()>
+    requires empty { sums.old ≡ record { items = []; capacity = 14 } }
+    requires few { length lower.now ≤ 14 }
+    requires sized { length lower.now ≡ length upper.now }
+    ensures kept { IsSome result ↔ NonePasses (mixed_numbers p lower.now q upper.now) }
+    ensures items { IfSome result (λ u. sums.new.items ≡ plus (map (λ c. p *ℤ c) lower.now) (map (λ c. q *ℤ c) upper.now)) }
+    ensures inline { sums.new.capacity ≡ 14 }
+{
+    if is_small(p) && is_small(q) && all_small(lower) && all_small(upper) {
+        small_mixed_coef(sums, p, lower, q, upper);
+        return Some(());
+    }
+    large_mixed_coef(sums, p, lower, q, upper)
+}
+
+/// As `mixed_coef`, for small numbers: nothing passes, and nothing is tested.
+fn small_mixed_coef(sums: &mut SmallVec<i128, 14>, p: i128, lower: &[i128], q: i128, upper: &[i128])
+    requires empty { sums.old ≡ record { items = []; capacity = 14 } }
+    requires few { length lower.now ≤ 14 }
+    requires sized { length lower.now ≡ length upper.now }
+    requires p { unsigned_abs p < 2 ^ 62 }
+    requires q { unsigned_abs q < 2 ^ 62 }
+    requires lower { All (λ z. unsigned_abs z < 2 ^ 62) lower.now }
+    requires upper { All (λ z. unsigned_abs z < 2 ^ 62) upper.now }
+    ensures fits { NonePasses (mixed_numbers p lower.now q upper.now) }
+    ensures items { sums.new.items ≡ plus (map (λ c. p *ℤ c) lower.now) (map (λ c. q *ℤ c) upper.now) }
+    ensures inline { sums.new.capacity ≡ 14 }
+{
+    for i in 0..lower.len() {
+        sums.push_reserved(small_sum(p, lower[i], q, upper[i]));
+    }
+}
+
+/// As `mixed_coef`, for numbers of any size: each is tested.
+#[inline(never)]
+fn large_mixed_coef(
     sums: &mut SmallVec<i128, 14>,
     p: i128,
     lower: &[i128],

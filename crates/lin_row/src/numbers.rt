@@ -53,13 +53,30 @@ pub fn add_product(sum: i128, a: i128, b: i128) -> Option<i128>
 
 /// Whether the number is so small that two products of such numbers, and their sum, fit.
 #[inline]
-fn is_small(number: i128) -> bool
+pub fn is_small(number: i128) -> bool
     ensures { IsTrue result ↔ (unsigned_abs number < 2 ^ 62) }
 {
     number > -0x4000_0000_0000_0000 && number < 0x4000_0000_0000_0000
 }
 
-/// The product of two small numbers.
+/// Whether all numbers are small.
+#[inline]
+pub fn all_small(numbers: &[i128]) -> bool
+    ensures { IsTrue result ↔ All (λ z. unsigned_abs z < 2 ^ 62) numbers.now }
+{
+    numbers.iter().all(|number| is_small(*number))
+}
+
+/// A small number fits into 64 bits.
+#[inline]
+fn narrow(number: i128) -> i64
+    requires { unsigned_abs number < 2 ^ 62 }
+    ensures { result ≡ number }
+{
+    number as i64
+}
+
+/// The product of two small numbers: one multiplication of 64 bits.
 #[inline]
 fn small_product(a: i128, b: i128) -> i128
     requires a { unsigned_abs a < 2 ^ 62 }
@@ -67,12 +84,20 @@ fn small_product(a: i128, b: i128) -> i128
     ensures value { result ≡ a *ℤ b }
     ensures size { unsigned_abs (a *ℤ b) < 2 ^ 124 }
 {
-    a * b
+    wide_product(narrow(a), narrow(b))
+}
+
+/// The product of two numbers of 64 bits.
+#[inline]
+fn wide_product(a: i64, b: i64) -> i128
+    ensures { result ≡ a *ℤ b }
+{
+    i128::from(a) * i128::from(b)
 }
 
 /// The sum of two products of small numbers.
 #[inline]
-fn small_sum(p: i128, a: i128, q: i128, b: i128) -> i128
+pub fn small_sum(p: i128, a: i128, q: i128, b: i128) -> i128
     requires p { unsigned_abs p < 2 ^ 62 }
     requires a { unsigned_abs a < 2 ^ 62 }
     requires q { unsigned_abs q < 2 ^ 62 }
@@ -84,7 +109,7 @@ fn small_sum(p: i128, a: i128, q: i128, b: i128) -> i128
 }
 
 /// The sum of two products, where none of the three passes 128 bits.
-#[inline(always)]
+#[inline]
 pub fn sum_of_two(p: i128, a: i128, q: i128, b: i128) -> Option<i128>
     ensures { SomeIff result (FitsBits (p *ℤ a) × FitsBits (q *ℤ b) × FitsBits (p *ℤ a +ℤ q *ℤ b)) (p *ℤ a +ℤ q *ℤ b) }
 {
@@ -158,15 +183,6 @@ pub fn inline_copy(alloc: Global, numbers: &[i128]) -> SmallVec<i128, 14>
     ensures inline { result.capacity ≡ 14 }
 {
     SmallVec::from_slice(alloc, numbers).unwrap()
-}
-
-/// A small number fits into 64 bits.
-#[inline]
-fn narrow(number: i128) -> i64
-    requires { unsigned_abs number < 2 ^ 62 }
-    ensures { result ≡ number }
-{
-    number as i64
 }
 
 /// A number divided by one that divides it.
