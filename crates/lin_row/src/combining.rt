@@ -8,7 +8,7 @@ ghost use Rattle.poly_specs.specs.Rows.{Point, Holds, coef_at};
 ghost use Rattle.lin_row.specs.Mixing.{RowsFit, mixed_numbers};
 
 use crate::numbers::{
-    all_small, greatest_divisor, is_small, reduce, small_sum, sum_of_two, whole_part,
+    all_small, greatest_divisor, is_small, narrow, narrow_sum, reduce, sum_of_two, whole_part,
 };
 use crate::{Passes, Row};
 use smallvec::SmallVec;
@@ -115,14 +115,15 @@ fn mixed_coef(
     ensures inline { sums.new.capacity ≡ 14 }
 {
     if is_small(p) && is_small(q) && all_small(lower) && all_small(upper) {
-        small_mixed_coef(sums, p, lower, q, upper);
+        small_mixed_coef(sums, narrow(p), lower, narrow(q), upper);
         return Some(());
     }
     large_mixed_coef(sums, p, lower, q, upper)
 }
 
 /// As `mixed_coef`, for small numbers: nothing passes, and nothing is tested.
-fn small_mixed_coef(sums: &mut SmallVec<i128, 14>, p: i128, lower: &[i128], q: i128, upper: &[i128])
+#[inline(never)]
+fn small_mixed_coef(sums: &mut SmallVec<i128, 14>, p: i64, lower: &[i128], q: i64, upper: &[i128])
     requires empty { sums.old ≡ record { items = []; capacity = 14 } }
     requires few { length lower.now ≤ 14 }
     requires sized { length lower.now ≡ length upper.now }
@@ -135,7 +136,7 @@ fn small_mixed_coef(sums: &mut SmallVec<i128, 14>, p: i128, lower: &[i128], q: i
     ensures inline { sums.new.capacity ≡ 14 }
 {
     for i in 0..lower.len() {
-        sums.push_reserved(small_sum(p, lower[i], q, upper[i]));
+        sums.push_reserved(narrow_sum(p, lower[i], q, upper[i]));
     }
 }
 

@@ -69,7 +69,7 @@ pub fn all_small(numbers: &[i128]) -> bool
 
 /// A small number fits into 64 bits.
 #[inline]
-fn narrow(number: i128) -> i64
+pub fn narrow(number: i128) -> i64
     requires { unsigned_abs number < 2 ^ 62 }
     ensures { result ≡ number }
 {
@@ -97,7 +97,7 @@ fn wide_product(a: i64, b: i64) -> i128
 
 /// The sum of two products of small numbers.
 #[inline]
-pub fn small_sum(p: i128, a: i128, q: i128, b: i128) -> i128
+fn small_sum(p: i128, a: i128, q: i128, b: i128) -> i128
     requires p { unsigned_abs p < 2 ^ 62 }
     requires a { unsigned_abs a < 2 ^ 62 }
     requires q { unsigned_abs q < 2 ^ 62 }
@@ -106,6 +106,20 @@ pub fn small_sum(p: i128, a: i128, q: i128, b: i128) -> i128
     ensures fits { FitsBits (p *ℤ a) × FitsBits (q *ℤ b) × FitsBits (p *ℤ a +ℤ q *ℤ b) }
 {
     small_product(p, a) + small_product(q, b)
+}
+
+/// The sum of a number's product and another's. The factors come in 64 bits, so that it is seen
+/// that one multiplication of 64 bits is enough.
+#[inline]
+pub fn narrow_sum(p: i64, a: i128, q: i64, b: i128) -> i128
+    requires p { unsigned_abs p < 2 ^ 62 }
+    requires a { unsigned_abs a < 2 ^ 62 }
+    requires q { unsigned_abs q < 2 ^ 62 }
+    requires b { unsigned_abs b < 2 ^ 62 }
+    ensures value { result ≡ p *ℤ a +ℤ q *ℤ b }
+    ensures fits { FitsBits (p *ℤ a) × FitsBits (q *ℤ b) × FitsBits (p *ℤ a +ℤ q *ℤ b) }
+{
+    small_sum(i128::from(p), a, i128::from(q), b)
 }
 
 /// The sum of two products, where none of the three passes 128 bits.
@@ -159,8 +173,40 @@ pub fn whole_part(x: u128, y: u128) -> u128
     x / y
 }
 
-/// The greatest common divisor, by Euclid's algorithm.
+/// The greatest common divisor.
+#[inline]
 pub fn greatest_divisor(a: u128, b: u128) -> u128
+    ensures { result ≡ gcd a b }
+{
+    if a < 0x1_0000_0000_0000_0000 && b < 0x1_0000_0000_0000_0000 {
+        return u128::from(small_divisor(a as u64, b as u64));
+    }
+    large_divisor(a, b)
+}
+
+/// The greatest common divisor of numbers of 64 bits, by Euclid's algorithm.
+fn small_divisor(a: u64, b: u64) -> u64
+    ensures { result ≡ gcd a b }
+{
+    if a == 0 {
+        return b;
+    }
+    let mut x = a;
+    let mut y = b;
+    while y > 1 {
+        let rest = x % y;
+        x = y;
+        y = rest;
+    }
+    if y == 1 {
+        return 1;
+    }
+    x
+}
+
+/// The greatest common divisor of any numbers, by Euclid's algorithm.
+#[inline(never)]
+fn large_divisor(a: u128, b: u128) -> u128
     ensures { result ≡ gcd a b }
 {
     let mut x = a;

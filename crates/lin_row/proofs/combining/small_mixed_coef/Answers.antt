@@ -10,14 +10,14 @@ pub loop-i-preserved : goal.loop-i-preserved
 loop-i-preserved c =
     let a : SFits w128 (get_or c.args.lower.now c.loop-i.i (pos 0)) = search rules in
     let b : SFits w128 (get_or c.args.upper.now c.loop-i.i (pos 0)) = search rules in
-    let s : SFits w128 c.small_sum.result = search rules in
+    let s : SFits w128 c.narrow_sum.result = search rules in
     let p = c.ranges.p in
     let q = c.ranges.q in
     let so_far : MixSoFar c.args.p c.args.lower.now c.args.q c.args.upper.now c.loop-i.i c.loop-i.sums.items = simp (to_z-of_z, p, q) at c.loop-i.invariant.0 in
     let fits : MixFits c.args.p (get_or c.args.lower.now c.loop-i.i (pos 0)) c.args.q (get_or c.args.upper.now c.loop-i.i (pos 0)) =
-    simp (to_z-of_z, a, b, p, q) at c.small_sum.ensures.fits in
-    let value : c.small_sum.result ≡ c.args.p *ℤ get_or c.args.lower.now c.loop-i.i (pos 0) +ℤ c.args.q *ℤ get_or c.args.upper.now c.loop-i.i (pos 0) =
-    simp (to_z-of_z, a, b, p, q) at c.small_sum.ensures.value in
+    simp (to_z-of_z, a, b, p, q) at c.narrow_sum.ensures.fits in
+    let value : c.narrow_sum.result ≡ c.args.p *ℤ get_or c.args.lower.now c.loop-i.i (pos 0) +ℤ c.args.q *ℤ get_or c.args.upper.now c.loop-i.i (pos 0) =
+    simp (to_z-of_z, a, b, p, q) at c.narrow_sum.ensures.value in
     let more = mix_more c.args.p c.args.lower.now c.args.q c.args.upper.now c.loop-i.i c.loop-i.sums.items so_far c.loop-i-test.true c.requires.sized fits in
     let whole : MixSoFar c.args.p c.args.lower.now c.args.q c.args.upper.now (c.loop-i.i + 1) c.push_reserved.new.self.items =
     rw c.push_reserved.ensures.items (simp (to_z-of_z, s) (rw value more)) in

@@ -2,7 +2,7 @@ use Rattle.std.proofs.Common.{sym, ap, ◌∙◌, arith}
 use Rattle.poly_specs.proofs.GcdLemmas.{gcd-zero, gcd-mod}
 use Rattle.poly_specs.specs.Elimination.{gcd}
 use Rattle.lin_row.proofs.DivisorLemmas.{gcd-into_one}
-use Rattle.lin_row.proofs.numbers.greatest_divisor.Goals as goal
+use Rattle.lin_row.proofs.numbers.large_divisor.Goals as goal
 
 pub loop-y-preserved : goal.loop-y-preserved
 loop-y-preserved c = ap (gcd c.loop-y.y) c.remainder-rest.ensures ∙ gcd-mod _ _ ∙ c.loop-y.invariant
