@@ -5,7 +5,7 @@ use Rattle.std.proofs.Math.Nat.{div-le_self, one-dvd, eq_of_mul-eq-mul_right}
 use Rattle.std.proofs.lemmas.Int.{ints, unsigned_abs-mul}
 use Rattle.std.proofs.lemmas.List.{length-map, drop_more, drop_all}
 use Rattle.std.proofs.lemmas.List.Elements.{All-map, All-weaker}
-use Rattle.std.proofs.lemmas.Nat.Gcd.{le_of_dvd, dvd_refl, dvd-zero}
+use Rattle.std.proofs.lemmas.Nat.Gcd.{le_of_dvd, dvd_refl}
 use Rattle.poly_specs.proofs.CombinationLemmas.{exact, gcd-IsGcd, times-divided, divisor-pos}
 use Rattle.poly_specs.proofs.GcdLemmas.{gcd-is, gcd-zero, gcd-scaled}
 use Rattle.poly_specs.specs.Bits.{FitsBits}
@@ -172,6 +172,3 @@ pub divided_fields : (cs : List ℤ) (c : ℤ) (s : Bool) (qs : List ℤ) (q : �
     q ≡ (divided (record { coef = cs; cst = c; strict = false })).cst → ◌≡◌ {A = Row} (record { coef = qs; cst = q; strict = s }) (divided (record { coef = cs; cst = c; strict = s }))
 unfolding divided divisor
 divided_fields cs c s qs q coef cst = λ i. record { coef = coef i; cst = cst i; strict = s }
-
-pub gcd-from_zero : (b : ℕ) → gcd 0 b ≡ b
-gcd-from_zero b = gcd-is 0 b b (dvd-zero b, dvd_refl b, λ d p q. q)
