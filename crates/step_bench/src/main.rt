@@ -122,9 +122,9 @@ fn timed(alloc: Global) -> Option<Key> {
 }
 
 /// How many states are after the gap. One that lacks memory has none.
-fn count_after(alloc: Global, key: &Key) -> u32 {
+fn count_after(alloc: Global, key: &Key) -> usize {
     match step(alloc, key) {
-        Ok(Outcome::Next(next)) => next.items().len() as u32,
+        Ok(Outcome::Next(next)) => next.items().len(),
         Ok(Outcome::Overflow) => 0,
         Err(_) => 0,
     }
@@ -133,7 +133,7 @@ fn count_after(alloc: Global, key: &Key) -> u32 {
 fn main(rt: HostRuntime) {
     let alloc = rt.alloc();
     let Some(key) = timed(alloc) else { return };
-    let mut count = 0u32;
+    let mut count = 0usize;
     for _ in 0..ROUNDS {
         count = count.wrapping_add(count_after(alloc, &key));
     }
