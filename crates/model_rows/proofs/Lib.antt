@@ -1,0 +1,7 @@
+mod ListLemmas
+mod FindLemmas
+mod DenLemmas
+mod TotalLemmas
+mod RowLemmas
+mod PassLemmas
+mod ComparisonLemmas
