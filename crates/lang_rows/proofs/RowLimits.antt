@@ -100,13 +100,13 @@ finished_rows done p x is e = let more = rows_more done x in fewer (rows_of (don
 
 -- ---- terms
 
-and_moves : (a b c : Bool) → (b ≡ true → c ≡ true) → (a && b) ≡ true → (a && c) ≡ true
+pub and_moves : (a b c : Bool) → (b ≡ true → c ≡ true) → (a && b) ≡ true → (a && c) ≡ true
 and_moves a b c h e = let p = both a b e in both_so a c p.0 (h p.1)
 
-few_moves : (m n : ℕ) → m ≤ n → nat_le (suc n) 14 ≡ true → nat_le (suc m) 14 ≡ true
+pub few_moves : (m n : ℕ) → m ≤ n → nat_le (suc n) 14 ≡ true → nat_le (suc m) 14 ≡ true
 few_moves m n le e = let most = leb-true (suc n) 14 e in le-leb (suc m) 14 (omega arith)
 
-few_made : (e : ExprPlace) (x : List Term) → made_expr e ≡ Some x → few_terms x ≡ few_at e
+pub few_made : (e : ExprPlace) (x : List Term) → made_expr e ≡ Some x → few_terms x ≡ few_at e
 few_made e x h = ap (λ n. nat_le n 14) (expr_length e x h)
 
 terms_left : (strict : Bool) (e : ExprPlace) (m : Mark) (q : Place) (o : Option ExprPlace) → in_expr e m ≡ o → by_left strict e m o ≡ Some q → few_there q ≡ true → few_at e ≡ true
@@ -151,7 +151,7 @@ over_terms done p x b h e =
     let last = all_last few_both done x (both (list_all few_both (done ++ x ∷ [])) b e).0 in
     both_so (list_all few_both done) (few_there p) last.0 (sym (made_terms p x h) ∙ last.1)
 
-few_more : (terms : List Term) (t : Term) (e : ExprPlace) → e.terms ≡ terms → few_at e ≡ true → few_terms (terms ++ t ∷ []) ≡ true
+pub few_more : (terms : List Term) (t : Term) (e : ExprPlace) → e.terms ≡ terms → few_at e ≡ true → few_terms (terms ++ t ∷ []) ≡ true
 few_more terms t e is k =
     let one = length-append terms (t ∷ []) in
     let alike = ap length is in
@@ -172,7 +172,7 @@ finished_terms done p x h e =
 
 -- ---- what the constraints say
 
-alike : {X Y : Type 0} (Value : X → Y → Type 0) (xs : List X) (ys : List Y) → AllValues Value xs ys → length xs ≡ length ys
+pub alike : {X Y : Type 0} (Value : X → Y → Type 0) (xs : List X) (ys : List Y) → AllValues Value xs ys → length xs ≡ length ys
 alike Value [] [] h = refl
 alike Value [] (y ∷ ys) h = absurd h
 alike Value (x ∷ xs) [] h = absurd h
@@ -229,7 +229,7 @@ module _ (strict : Bool) where
   }
 
   -- the limits that lists of constraints pass are two
-  free : (s : State) → (fits_state Automata s ≡ true) × (fits_state Variables s ≡ true) × (fits_state Locations s ≡ true) × (fits_state Transitions s ≡ true)
+  pub free : (s : State) → (fits_state Automata s ≡ true) × (fits_state Variables s ≡ true) × (fits_state Locations s ≡ true) × (fits_state Transitions s ≡ true)
       × (fits_state NameBytes s ≡ true) × (fits_state Digits s ≡ true)
   free at_first = (refl, refl, refl, refl, refl, refl)
   free behind_true = (refl, refl, refl, refl, refl, refl)

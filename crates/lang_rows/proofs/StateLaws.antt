@@ -52,7 +52,7 @@ module _ (strict : Bool) where
   inner = line_laws (rows strict) spell_row said_row (GoodRow strict) (FinePlace strict) (row_laws strict) (IsRow strict) IsRowValue (row_values strict) row_limits (limit_laws strict)
 
   -- what was read up to a state
-  abbrev SaidAt : State → List Mark → Type 0
+  abbrev pub SaidAt : State → List Mark → Type 0
   SaidAt at_first ms = ms ≡ []
   SaidAt behind_true ms = ms ≡ the True ∷ []
   SaidAt true_ended ms = ms ≡ the True ∷ the EndLine ∷ []
@@ -154,7 +154,7 @@ module _ (strict : Bool) where
 
   -- ---- what is read
 
-  says : (u : State) (ms : List Mark) (ys : List RowTree) → SaidAt u ms → Ends u ys → IsLine (AreRows strict) ms ys
+  pub says : (u : State) (ms : List Mark) (ys : List RowTree) → SaidAt u ms → Ends u ys → IsLine (AreRows strict) ms ys
   says at_first ms ys h e = absurd e
   says behind_true ms ys h e = absurd e
   says true_ended ms ys h e = (the True ∷ [], h, subst (AreRows strict (the True ∷ [])) (sym e) refl)
@@ -165,7 +165,7 @@ module _ (strict : Bool) where
         are_rows (joined spell_row r.done) ys (joined_spells spell_row (IsRow strict) IsRowValue (GoodRow strict) (row_values strict) r.done ys line.0.2.0 line.1 e.1),
       )
 
-  limits_say : (u : State) (ys : List RowTree) → Ends u ys → (which : Which) → fits_state which u ≡ true → row_limits which ys ≡ true
+  pub limits_say : (u : State) (ys : List RowTree) → Ends u ys → (which : Which) → fits_state which u ≡ true → row_limits which ys ≡ true
   limits_say at_first ys e which f = absurd e
   limits_say behind_true ys e which f = absurd e
   limits_say true_ended ys e which f = subst (λ z. row_limits which z ≡ true) (sym e) (true_keeps which)

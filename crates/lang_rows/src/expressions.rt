@@ -18,25 +18,34 @@ use std::alloc::Global;
 
 /// A literal, a literal times a variable, or a variable.
 #[derive(Clone, Copy, Debug)]
-pub(crate) enum FactorText<'a> {
+pub enum FactorText<'a> {
+    /// `LITERAL`
     Literal(&'a [u8]),
+    /// `LITERAL * NAME`
     Scaled(&'a [u8], &'a [u8]),
+    /// `NAME`
     Plain(&'a [u8]),
 }
 
 /// A term as it is written, taken away where `neg`.
 #[derive(Clone, Copy, Debug)]
-pub(crate) struct TermText<'a> {
-    pub(crate) neg: bool,
-    pub(crate) factor: FactorText<'a>,
+pub struct TermText<'a> {
+    /// Whether it is taken away.
+    pub neg: bool,
+    /// The term without its sign.
+    pub factor: FactorText<'a>,
 }
 
 /// What an expression wants next, and what stands before it in the term.
 #[derive(Clone, Copy, Debug)]
-pub(crate) enum TermPlace<'a> {
+pub enum TermPlace<'a> {
+    /// Before a term, which is taken away where `true`.
     Term(bool),
+    /// Behind a literal, which is the term unless `*` stands next.
     Number(bool, &'a [u8]),
+    /// Behind the `*` of a literal.
     Times(bool, &'a [u8]),
+    /// Behind a term that ends with a variable.
     Named(TermText<'a>),
 }
 
@@ -59,11 +68,7 @@ fn at_term<'a>(first: bool, neg: bool, token: Token<'a>) -> Option<TermPlace<'a>
 
 /// The place behind a token in a term; `first` says that no term stands before it.
 #[tactic(auto, unfolding(crate::specs::ExprMachine::in_term))]
-pub(crate) fn in_term<'a>(
-    first: bool,
-    place: TermPlace<'a>,
-    token: Token<'a>,
-) -> Option<TermPlace<'a>>
+pub fn in_term<'a>(first: bool, place: TermPlace<'a>, token: Token<'a>) -> Option<TermPlace<'a>>
     ensures { option_map place_of result ≡ machine.in_term first (place_of place.entry) (mark (placed_of 0 token.entry)) }
 {
     match place {
@@ -80,7 +85,7 @@ pub(crate) fn in_term<'a>(
 }
 
 /// The term that is complete here.
-pub(crate) fn made_term<'a>(place: TermPlace<'a>) -> Option<TermText<'a>>
+pub fn made_term<'a>(place: TermPlace<'a>) -> Option<TermText<'a>>
     ensures { option_map term_of result ≡ machine.made_term (place_of place.entry) }
 {
     match place {
@@ -94,7 +99,7 @@ pub(crate) fn made_term<'a>(place: TermPlace<'a>) -> Option<TermText<'a>>
 }
 
 /// Whether the token joins a next term, and takes it away.
-pub(crate) fn joins<'a>(token: Token<'a>) -> Option<bool>
+pub fn joins<'a>(token: Token<'a>) -> Option<bool>
     ensures { result ≡ machine.joins (mark (placed_of 0 token.entry)) }
 {
     if is(token.kind, Kind::Plus) {
@@ -107,7 +112,7 @@ pub(crate) fn joins<'a>(token: Token<'a>) -> Option<bool>
 }
 
 /// Whether no term stands here.
-pub(crate) fn is_empty<'a>(terms: &[TermText<'a>]) -> bool
+pub fn is_empty<'a>(terms: &[TermText<'a>]) -> bool
     ensures { result ≡ machine.is_empty (map term_of terms.now) }
 {
     match terms {
@@ -152,7 +157,7 @@ fn tree<'a>(alloc: Global, text: TermText<'a>) -> Option<Term>
 }
 
 /// What each term says.
-pub(crate) fn terms<'a>(alloc: Global, texts: &[TermText<'a>]) -> Result<Vec<Term>, LineFault>
+pub fn terms<'a>(alloc: Global, texts: &[TermText<'a>]) -> Result<Vec<Term>, LineFault>
     ensures ok { IfOk result (λ v. AllValues IsTermValue (map term_of texts.now) v.items) }
     ensures err { IfErr result (λ e. e ≡ LineFault.Memory) }
 {

@@ -26,7 +26,7 @@ use std::alloc::{AllocError, Global};
 
 /// A constraint as it is written.
 #[derive(Drop)]
-pub(crate) struct RowText<'a> {
+pub struct RowText<'a> {
     pub(crate) left: Vec<TermText<'a>>,
     pub(crate) sign: Sign,
     pub(crate) right: Vec<TermText<'a>>,
@@ -35,7 +35,7 @@ pub(crate) struct RowText<'a> {
 /// Constraints that are complete; of the next one the left side and the sign, once they are read; the terms before, the
 /// place in the next term, and whether the line has ended.
 #[derive(Drop)]
-pub(crate) struct RowReader<'a> {
+pub struct RowReader<'a> {
     pub(crate) done: Vec<RowText<'a>>,
     pub(crate) left: Vec<TermText<'a>>,
     pub(crate) sign: Option<Sign>,
@@ -46,7 +46,7 @@ pub(crate) struct RowReader<'a> {
 
 /// The reader of a line: before its first token, behind `true`, behind the end after it, or in constraints.
 #[derive(Drop)]
-pub(crate) enum RowsReader<'a> {
+pub enum RowsReader<'a> {
     First,
     True,
     Ended,
@@ -55,9 +55,9 @@ pub(crate) enum RowsReader<'a> {
 
 /// Whether some token limits are kept: rows of the list, and terms of each expression.
 #[derive(Clone, Copy, Debug)]
-pub(crate) struct Room {
-    pub(crate) rows: bool,
-    pub(crate) terms: bool,
+pub struct Room {
+    pub rows: bool,
+    pub terms: bool,
 }
 
 /// How a token compares; `<` and `>` do so only if strict.
@@ -255,7 +255,7 @@ fn in_rows<'a>(
 
 /// The reader behind a token, whatever limit it passes.
 #[tactic(auto, unfolding(crate::specs::RowMachine::next_row))]
-fn advance<'a>(
+pub fn advance<'a>(
     alloc: Global,
     strict: bool,
     reader: RowsReader<'a>,
@@ -351,7 +351,7 @@ fn room_in_rows<'a>(reader: &RowReader<'a>) -> Room
 }
 
 /// What room there is for rows and for terms.
-fn room_left<'a>(reader: &RowsReader<'a>) -> Room
+pub fn room_left<'a>(reader: &RowsReader<'a>) -> Room
     ensures rows { result.rows ≡ machine.fits_state which.Rows (state_of reader.now) }
     ensures terms { result.terms ≡ machine.fits_state which.Terms (state_of reader.now) }
 {
@@ -365,7 +365,7 @@ fn room_left<'a>(reader: &RowsReader<'a>) -> Room
 }
 
 /// The limit that a token passes, with this room before it and behind it.
-fn passed<'a>(line: u32, before: Room, behind: Room, token: Token<'a>) -> Option<Which>
+pub fn passed<'a>(line: u32, before: Room, behind: Room, token: Token<'a>) -> Option<Which>
     ensures { result ≡ (if machines.fits_on before.rows behind.rows (mark (placed_of line token.entry)) then (if machines.fits_on before.terms behind.terms (mark (placed_of line token.entry)) then machines.passed_alone (mark (placed_of line token.entry)) else Some which.Terms) else Some which.Rows) }
 {
     if !fits_on(before.rows, behind.rows, token.kind) {
@@ -434,7 +434,7 @@ fn trees<'a>(alloc: Global, texts: &[RowText<'a>]) -> Result<Vec<RowTree>, LineF
 }
 
 /// What the constraints say that were read.
-fn finished<'a>(alloc: Global, reader: &RowsReader<'a>) -> Result<Vec<RowTree>, LineFault>
+pub fn finished<'a>(alloc: Global, reader: &RowsReader<'a>) -> Result<Vec<RowTree>, LineFault>
     ensures ok { IfOk result (λ v. Ends (state_of reader.now) v.items) }
     ensures err { IfErr result (λ e. e ≡ LineFault.Memory) }
 {

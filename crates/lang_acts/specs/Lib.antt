@@ -1,0 +1,2 @@
+pub mod ActMachine
+pub mod Views

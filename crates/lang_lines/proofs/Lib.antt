@@ -1,0 +1,4 @@
+pub mod ShortSteps
+pub mod Readings
+pub mod Agreements
+pub mod ShortLaws

@@ -1,0 +1,3 @@
+pub mod Lines
+pub mod ShortMachine
+pub mod Views

@@ -1,0 +1,4 @@
+pub mod GrowingLemmas
+pub mod LineHeads
+pub mod MoreLines
+pub mod ReadingLemmas

@@ -1,0 +1,3 @@
+pub mod GuardEnds
+pub mod TransitionLaws
+pub mod TransitionLine

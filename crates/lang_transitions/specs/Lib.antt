@@ -1,0 +1,2 @@
+pub mod TransitionMachine
+pub mod Views
