@@ -12,6 +12,8 @@ mod prepared;
 mod refusals;
 mod relation;
 mod session;
+#[cfg(test)]
+mod tests;
 mod times;
 
 pub use history::History;

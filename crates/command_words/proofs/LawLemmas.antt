@@ -1,0 +1,122 @@
+-- Short command lines, word by word.
+use Rattle.std.proofs.Common.{◌≡◌, ◌∙◌, ℕ, List, [], ◌∷◌, false, refl, ap, ap₂, codes}
+use Rattle.std.specs.Prelude.{Option, Some, None, is_some, bytes_eq, if◌then◌else◌}
+use Rattle.std.specs.Option.{option_map_or}
+use Rattle.clap.specs.Lexer.{long_of, short_of}
+use Rattle.std.specs.Str.Parse.{starts_with_minus}
+use Rattle.clap.specs.Walk.{Held, Rule, Step, Text, Walk, after_step, arg_by_index, finished, idle, long_or_other, nothing_held, settled, short_or_plain, to_positional, trailing, value, walk, walk_from, walked, word_met}
+use Rattle.clap.specs.Simple.{Shape, built, entered}
+use Rattle.clap.specs.Kinds.{Kinds, or_else}
+use Rattle.clap.specs.Faults.{bundle_fault, check_fault, defaults_fault, entered_fault, flag_word_fault, settle_fault, step_fault, turn_fault, walk_fault, word_fault}
+use Rattle.clap.proofs.OnLiterals.{clap_on_literals}
+use Rattle.command_words.specs.CommandLine.{Request, command_line, plain_check, request_in, request_of, without_fault}
+
+-- between two words, where no option waits for its value
+abbrev at : Held → ℕ → Walk
+at h position = record { held = h; waiting = idle; position = position; is_trailing = false; stopped = None }
+
+-- a word that does not begin with `-` is no option and not `--`
+no_hyphens : (word : Text) → starts_with_minus word ≡ false → bytes_eq word (45 ∷ 45 ∷ []) ≡ false
+no_hyphens [] e = refl
+no_hyphens (b ∷ word) e = rw e refl
+
+no_long : (word : Text) → starts_with_minus word ≡ false → long_of word ≡ None
+no_long [] e = refl
+no_long (b ∷ word) e = rw e refl
+
+no_short : (word : Text) → starts_with_minus word ≡ false → short_of word ≡ None
+no_short [] e = refl
+no_short (b ∷ word) e = rw e refl
+
+-- it goes to the next positional
+plain_met : (c : List Rule) (h : Held) (position : ℕ) (word : Text) → starts_with_minus word ≡ false → word_met c [] false idle position word h ≡ (h, value)
+plain_met c h position word e =
+    ap (λ t. if t then (h, trailing position) else long_or_other c idle word (long_of word) h) (no_hyphens word e)
+    ∙ ap (λ o. long_or_other c idle word o h) (no_long word e) ∙ ap (λ o. short_or_plain c idle word o h) (no_short word e)
+
+plain_word : (s : Shape) (h : Held) (word : Text) → starts_with_minus word ≡ false → word_fault s [] false idle word h ≡ []
+plain_word s h word e =
+    ap (λ t. if t then [] else flag_word_fault s.rules s.args_override_self (long_of word) word h) (no_hyphens word e)
+    ∙ ap (λ o. flag_word_fault s.rules s.args_override_self o word h) (no_long word e)
+    ∙ ap (λ o. option_map_or (λ flags. bundle_fault s.rules s.args_override_self flags h) o []) (no_short word e)
+
+plain_walked : (c : List Rule) (h : Held) (position : ℕ) (word : Text) → starts_with_minus word ≡ false →
+    walked c [] (at h position) word ≡ to_positional c (arg_by_index c position) word (at h position) h
+unfolding walked
+plain_walked c h position word e = ap (λ (met : Held × Step). after_step c word (at h position) met.0 met.1) (plain_met c h position word e)
+
+plain_turn : (s : Shape) (h : Held) (position : ℕ) (word : Text) → starts_with_minus word ≡ false →
+    turn_fault s [] (at h position) word ≡ step_fault s position h value
+plain_turn s h position word e =
+    ap₂ (λ (kinds : Kinds) (met : Held × Step). or_else kinds (step_fault s position met.0 met.1)) (plain_word s h word e) (plain_met s.rules h position word e)
+
+-- what is asked for, by the faults of the walk over the words and where it ends
+abbrev asked_by : Kinds → Walk → Option Request
+asked_by kinds end =
+    let form = built command_line in
+    without_fault (or_else kinds (or_else (entered_fault form end.stopped) (or_else (settle_fault form.top.rules false end.held)
+    (or_else (defaults_fault (settled form.top.rules end.held).rows form.top.rules)
+    (check_fault form.top (finished form.top.rules end.held) (is_some (entered form end.stopped)))))))
+    (request_in (finished form.top.rules end.held))
+
+asked_by_walk : (words : List Text) →
+    request_of words ≡ asked_by (walk_fault (built command_line).top [] (walk_from nothing_held) words) (walk (built command_line).top.rules [] nothing_held words)
+asked_by_walk words = refl
+
+-- ---- after the word `check`
+
+abbrev form : Shape
+form = (built command_line).top
+
+-- the walk after it
+abbrev behind_check : Walk
+behind_check = walked form.rules [] (walk_from nothing_held) (codes "check")
+
+-- the walk after one name more
+abbrev behind_name : Text → Walk
+behind_name name = to_positional form.rules (arg_by_index form.rules 2) name behind_check behind_check.held
+
+one_walk : (name : Text) → starts_with_minus name ≡ false → walked form.rules [] behind_check name ≡ behind_name name
+unfolding clap_on_literals
+one_walk name e = plain_walked form.rules behind_check.held 2 name e
+
+one_turn : (name : Text) → starts_with_minus name ≡ false → turn_fault form [] behind_check name ≡ []
+unfolding clap_on_literals
+one_turn name e = plain_turn form behind_check.held 2 name e
+
+one_fault : (name : Text) → starts_with_minus name ≡ false → walk_fault form [] (walk_from nothing_held) (codes "check" ∷ name ∷ []) ≡ []
+unfolding clap_on_literals
+one_fault name e = ap (λ (kinds : Kinds). or_else kinds []) (one_turn name e)
+
+one_asked : (name : Text) → asked_by [] (behind_name name) ≡ Some (plain_check name)
+unfolding clap_on_literals
+one_asked name = refl
+
+pub one_name : (name : Text) → starts_with_minus name ≡ false → request_of (codes "check" ∷ name ∷ []) ≡ Some (plain_check name)
+one_name name e = asked_by_walk (codes "check" ∷ name ∷ []) ∙ ap₂ asked_by (one_fault name e) (one_walk name e) ∙ one_asked name
+
+-- ---- two names
+
+-- the walk after the second
+abbrev behind_two : Text → Text → Walk
+behind_two name other = to_positional form.rules (arg_by_index form.rules 3) other (behind_name name) (behind_name name).held
+
+two_walk : (name other : Text) → starts_with_minus name ≡ false → starts_with_minus other ≡ false →
+    walked form.rules [] (walked form.rules [] behind_check name) other ≡ behind_two name other
+unfolding clap_on_literals
+two_walk name other e f = ap (λ w. walked form.rules [] w other) (one_walk name e) ∙ plain_walked form.rules (behind_name name).held 3 other f
+
+two_fault : (name other : Text) → starts_with_minus name ≡ false → starts_with_minus other ≡ false →
+    walk_fault form [] (walk_from nothing_held) (codes "check" ∷ name ∷ other ∷ []) ≡ []
+unfolding clap_on_literals
+two_fault name other e f =
+    ap₂ (λ (kinds : Kinds) (w : Walk). or_else kinds (or_else (turn_fault form [] w other) [])) (one_turn name e) (one_walk name e)
+    ∙ ap (λ (kinds : Kinds). or_else kinds []) (plain_turn form (behind_name name).held 3 other f)
+
+two_asked : (name other : Text) → asked_by [] (behind_two name other) ≡ None
+unfolding clap_on_literals
+two_asked name other = refl
+
+pub two_names : (name other : Text) → starts_with_minus name ≡ false → starts_with_minus other ≡ false → request_of (codes "check" ∷ name ∷ other ∷ []) ≡ None
+two_names name other e f =
+    asked_by_walk (codes "check" ∷ name ∷ other ∷ []) ∙ ap₂ asked_by (two_fault name other e f) (two_walk name other e f) ∙ two_asked name other

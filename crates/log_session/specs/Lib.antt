@@ -1,0 +1,6 @@
+pub mod Progress
+pub mod Parts
+pub mod Columns
+pub mod Refusals
+pub mod Replies
+pub mod Told

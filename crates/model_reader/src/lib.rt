@@ -1,0 +1,14 @@
+//! Reads the text of a model: its automata, or what is wrong with it and the line that tells this.
+#![tactic(auto)]
+
+mod faults;
+mod lines;
+mod texts;
+
+pub use faults::ModelFault;
+pub use texts::read_automata;
+
+#[cfg(test)]
+mod automaton_tests;
+#[cfg(test)]
+mod fault_tests;

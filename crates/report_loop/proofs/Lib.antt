@@ -1,0 +1,5 @@
+pub mod FlagLemmas
+pub mod FirstLemmas
+pub mod StreamLemmas
+pub mod WriteLemmas
+pub mod Progress

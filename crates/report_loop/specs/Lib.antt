@@ -1,0 +1,4 @@
+pub mod Codes
+pub mod Tasks
+pub mod Outcome
+pub mod Turns

@@ -1,0 +1,177 @@
+//! Reads the lines of a log and writes their blocks.
+ghost use Rattle.std.specs.Prelude.{◌≡◌, ℕ, ◌≤◌, List, [], length, map, Option, Some, IfOk, IfNone, OnOk, OnErr};
+ghost use Rattle.std.specs.Arc.{arc_value};
+ghost use Rattle.log_specs.specs.Blocks.{Task};
+ghost use Rattle.log_specs.specs.LogReports.{rules_of};
+ghost use Rattle.log_reader.specs.Reading.{HoldsNoFeed};
+ghost use Rattle.log_session.specs.Progress.{Progress, IsTaskOf};
+ghost use Rattle.model_specs.specs.Automata.{HasOneOfEachName};
+ghost use Rattle.report_loop.specs.Outcome.{Streams, Says};
+ghost use Rattle.report_loop.specs.Tasks.{check_task};
+ghost use Rattle.report_loop.specs.Turns.{AddsBlock, is_line, IsReporting, TurnSays, FlushSays, LinesSay, GivesOne, status_for, status_at_end};
+
+use crate::status::Status;
+use crate::writing::{write_pending, write_rest, write_status};
+use lha_model::Automaton;
+use log_reader::{Line, LineReader, ReadFault};
+use log_session::CheckedLog;
+use mon_io::{Sink, SinkFault, Source};
+use std::alloc::{AllocError, Global};
+use std::sync::Arc;
+
+/// The most bytes of a log that are read: 2^34.
+const LOG_LIMIT: u64 = 1 << 34;
+
+/// Adds the block of what the reader gave, and tells whether it was a line. After an error nothing has changed.
+fn add_block(
+    alloc: Global,
+    checked: &mut CheckedLog,
+    line: Line,
+    pending: &mut Vec<u8>,
+) -> Result<bool, AllocError>
+    requires { HoldsNoFeed line }
+    ensures ok { OnOk result ((task : Task) → IsTaskOf task checked.old → AddsBlock task line checked.old checked.new pending.old.items pending.new.items) }
+    ensures more { IfOk result (λ more. more ≡ is_line line) }
+    ensures err { OnErr result (pending.new.items ≡ pending.old.items) }
+{
+    match line {
+        Line::Text { number, bytes } => {
+            checked.add_line(alloc, number, &bytes, pending)?;
+            Ok(true)
+        }
+        Line::Long { number } => {
+            checked.add_long(number, pending)?;
+            Ok(true)
+        }
+        Line::End => Ok(false),
+    }
+}
+
+/// The status at the end of a log.
+fn status_of(checked: &CheckedLog) -> Status
+    ensures { result ≡ status_at_end checked.now.has_alarm checked.now.has_overflow }
+{
+    if checked.has_alarm() {
+        Status::Alarm
+    } else if checked.has_overflow() {
+        Status::Overflow
+    } else {
+        Status::Clean
+    }
+}
+
+/// The status of a reading that failed.
+fn fault_status(fault: ReadFault) -> Status
+    ensures { result ≡ status_for fault }
+{
+    match fault {
+        ReadFault::Failed => Status::ReadFault,
+        ReadFault::Limit => Status::Limit,
+        ReadFault::Memory => Status::Memory,
+    }
+}
+
+/// Reads a line and adds its block to the pending ones; the status if the reading ended.
+fn read_line<L: Source>(
+    alloc: Global,
+    reader: &mut LineReader,
+    checked: &mut CheckedLog,
+    pending: &mut Vec<u8>,
+    log: &mut L,
+) -> Option<Status>
+    ensures says { (task : Task) (before : Streams) (out : Option (List ℕ)) (writes : ℕ)
+        → IsReporting task before (record { log = L.told log.old; log_faults = L.faults log.old; out = out; out_faults = writes })
+        reader.old checked.old pending.old.items
+        → TurnSays task before (record { log = L.told log.new; log_faults = L.faults log.new; out = out; out_faults = writes })
+        reader.new checked.new pending.new.items result }
+    ensures given { IfNone result (GivesOne reader.old reader.new) }
+{
+    let line = match reader.next_line(alloc, log) {
+        Ok(line) => line,
+        Err(fault) => return Some(fault_status(fault)),
+    };
+    match add_block(alloc, checked, line, pending) {
+        Ok(true) => None,
+        Ok(false) => Some(status_of(checked)),
+        Err(_) => Some(Status::Memory),
+    }
+}
+
+/// Writes the pending blocks if the reader holds no whole line, so that a reader of the output need not wait for the next read.
+fn flush_before_read<O: Sink>(
+    reader: &LineReader,
+    pending: &mut Vec<u8>,
+    out: &mut O,
+) -> Result<(), SinkFault>
+    ensures within { reader.now.reading.given ≤ reader.now.reading.most }
+    ensures says { (task : Task) (p : Progress) (before : Streams) (log : Option (List ℕ)) (reads : ℕ)
+        → IsReporting task before (record { log = log; log_faults = reads; out = O.taken out.old; out_faults = O.faults out.old }) reader.now p pending.old.items
+        → FlushSays task before (record { log = log; log_faults = reads; out = O.taken out.new; out_faults = O.faults out.new }) reader.now p pending.new.items result }
+{
+    if reader.has_line() {
+        Ok(())
+    } else {
+        write_pending(out, pending)
+    }
+}
+
+/// Reads lines until the reading ends, and writes their blocks whenever the reader holds no whole line. Gives the status of the
+/// reading, with blocks that may be pending yet.
+fn read_lines<L: Source, O: Sink>(
+    alloc: Global,
+    reader: &mut LineReader,
+    checked: &mut CheckedLog,
+    pending: &mut Vec<u8>,
+    log: &mut L,
+    out: &mut O,
+) -> Result<Status, SinkFault>
+    ensures { (task : Task) (before : Streams)
+        → IsReporting task before
+        (record { log = L.told log.old; log_faults = L.faults log.old; out = O.taken out.old; out_faults = O.faults out.old })
+        reader.old checked.old pending.old.items
+        → LinesSay task before
+        (record { log = L.told log.new; log_faults = L.faults log.new; out = O.taken out.new; out_faults = O.faults out.new })
+        pending.new.items result }
+{
+    'lines: loop {
+        if let Err(fault) = flush_before_read(reader, pending, out) {
+            return Err(fault);
+        }
+        if let Some(status) = read_line(alloc, reader, checked, pending, log) {
+            return Ok(status);
+        }
+    }
+}
+
+/// Reports a log: reads its lines, judges them by the first of the automata with at most so many jumps in each gap, and writes the
+/// block of each, without the lines of runs. It returns whenever the source and the sink do.
+///
+/// The automata have distinct names, and each has distinct variables and locations, as those of a model's text.
+pub fn report_log<L: Source, O: Sink>(
+    alloc: Global,
+    models: &[Arc<Automaton>],
+    jumps: u8,
+    log: &mut L,
+    out: &mut O,
+) -> Status
+    requires some { 1 ≤ length models.now }
+    requires names { HasOneOfEachName (map (λ a. arc_value a) models.now) }
+    requires jumps { jumps ≤ 6 }
+    ensures { Says (rules_of (check_task (map (λ a. arc_value a) models.now) jumps))
+        (record { log = L.told log.old; log_faults = L.faults log.old; out = O.taken out.old; out_faults = O.faults out.old })
+        (record { log = L.told log.new; log_faults = L.faults log.new; out = O.taken out.new; out_faults = O.faults out.new })
+        result }
+{
+    let Ok(automaton) = Arc::try_clone(&models[0]) else {
+        return Status::Memory;
+    };
+    let Ok(mut reader) = LineReader::new(alloc, LOG_LIMIT) else {
+        return Status::Memory;
+    };
+    let mut checked = CheckedLog::new(automaton, jumps);
+    let mut pending = Vec::new(alloc);
+    match read_lines(alloc, &mut reader, &mut checked, &mut pending, log, out) {
+        Ok(status) => write_rest(out, &mut pending, status),
+        Err(fault) => write_status(fault),
+    }
+}
