@@ -1,10 +1,3 @@
-pub mod Words
-pub mod Pieces
-pub mod Fields
-pub mod Parts
-pub mod Codes
-pub mod Outcome
-pub mod Blocks
-pub mod Sessions
-pub mod Turns
+pub mod Models
+pub mod Telling
 pub mod Runs

@@ -1,13 +1,16 @@
 -- What a run does with its words, its model and its log.
-use Rattle.std.specs.Prelude.{◌≡◌, ◌≢◌, ◌⊎◌, ℕ, ◌^◌, ◌<◌, ◌≤◌, List, length, Option, None, Some, IfSome, ⊤}
+use Rattle.std.specs.Prelude.{◌≡◌, ◌≢◌, ◌⊎◌, ℕ, ◌<◌, List, length, Option, None, Some, IfSome, option_and_then, ⊤}
 use Rattle.std.specs.Io.KnownBytes.{Consumes}
 use Rattle.mon_io.specs.Faults.{Rose}
-use Rattle.check_specs.specs.Models.{SimpleModel, IsTextOf}
-use Rattle.check_specs.specs.Report.{rules_of}
-use Rattle.hamon_engine.specs.declared.status.Status.{Status}
-use Rattle.hamon_engine.specs.declared.status.Status.TheVariants as status
-use Rattle.hamon_engine.specs.Codes.{line_of}
-use Rattle.hamon_engine.specs.Outcome.{Streams, Says, IsUntouched, TellsLine, log_limit}
+use Rattle.run_specs.specs.Automaton.{Automaton}
+use Rattle.log_specs.specs.LogReports.{rules_of}
+use Rattle.text_specs.specs.ModelTexts.{SaysAutomata}
+use Rattle.command_words.specs.CommandLine.{Command, Check, Request}
+use Rattle.command_words.specs.declared.options.Options.{Options}
+use Rattle.report_loop.specs.declared.status.Status.{Status}
+use Rattle.report_loop.specs.declared.status.Status.TheVariants as status
+use Rattle.report_loop.specs.Tasks.{check_task}
+use Rattle.report_loop.specs.Outcome.{Streams, Says, IsUntouched, log_limit}
 
 -- the log, the output and the shelf, before or after a run
 pub record Outside : Type 0 where
@@ -15,30 +18,38 @@ pub record Outside : Type 0 where
   pub shelf : List ℕ → Option (List ℕ)
   pub shelf_faults : ℕ
 
--- the text is that of the model, and not too long to be read
-pub record IsModelText (text : List ℕ) (m : SimpleModel) : Type 0 where
-  pub fits : length text ≤ 2 ^ 20
-  pub spelled : IsTextOf text m
+-- the name of a command's model
+abbrev pub model_of : Command → List ℕ
+model_of (Check model) = model
+
+-- the text of the model that words ask for, where they ask for one and the shelf tells it
+abbrev pub model_text : (List ℕ → Option (List ℕ)) → Option Request → Option (List ℕ)
+model_text shelf request = option_and_then (λ r. shelf (model_of r.command)) request
+
+-- ---- what is written
 
 -- no model was had, since the shelf failed or memory was wanted: nothing was read or written
 pub record HasNoModel (before now : Outside) (s : Status) : Type 0 where
   pub untouched : IsUntouched before.streams now.streams
   pub why : ((s ≡ status.ReadFault) × Rose before.shelf_faults now.shelf_faults) ⊎ (s ≡ status.Memory)
 
--- the text is that of no model: it is refused, if it was had
+-- the text says no automata: it is refused, if it was had
 pub record RefusesText (before now : Outside) (s : Status) : Type 0 where
   pub untouched : IsUntouched before.streams now.streams
   pub why : (s ≡ status.Model) ⊎ HasNoModel before now s
 
--- what a run does with a model's text: the report of the log for its model, or a refusal
-pub record RunsText (before now : Outside) (s : Status) (text : List ℕ) : Type 0 where
-  pub reports : (m : SimpleModel) → IsModelText text m → Says (rules_of m) before.streams now.streams s ⊎ HasNoModel before now s
-  pub refuses : ((m : SimpleModel) → IsModelText text m → ⊥) → RefusesText before now s
+-- what a run does with a model's text: the report of the log for its automata, or a refusal
+pub record RunsText (before now : Outside) (s : Status) (options : Options) (text : List ℕ) : Type 0 where
+  pub reports : (automata : List Automaton) → SaysAutomata text automata →
+      Says (rules_of (check_task automata options.jumps)) before.streams now.streams s ⊎ HasNoModel before now s
+  pub refuses : ((automata : List Automaton) → SaysAutomata text automata → ⊥) → RefusesText before now s
 
--- what a run does with the name of its model; none: its words are refused
-abbrev pub RunsWords : Outside → Outside → Status → Option (List ℕ) → Type 0
+-- what a run does with what its words ask for; None: they are refused
+abbrev pub RunsWords : Outside → Outside → Status → Option Request → Type 0
 RunsWords before now s None = IsUntouched before.streams now.streams × ((s ≡ status.Words) ⊎ (s ≡ status.Memory))
-RunsWords before now s (Some name) = (s ≢ status.Words) × IfSome (before.shelf name) (RunsText before now s)
+RunsWords before now s (Some r) = (s ≢ status.Words) × IfSome (before.shelf (model_of r.command)) (RunsText before now s r.options)
+
+-- ---- completeness
 
 -- no count of faults rose, and fewer bytes of the log were read than are read at most
 pub record IsUndisturbed (before now : Outside) : Type 0 where
@@ -49,13 +60,15 @@ pub record IsUndisturbed (before now : Outside) : Type 0 where
 
 -- the log was read to its end, or memory was wanted
 abbrev pub IsComplete : Status → Type 0
-IsComplete s = (s ≡ status.Clean) ⊎ ((s ≡ status.Alarm) ⊎ (s ≡ status.Memory))
+IsComplete s = (s ≡ status.Clean) ⊎ ((s ≡ status.Alarm) ⊎ ((s ≡ status.Overflow) ⊎ (s ≡ status.Memory)))
 
--- with a model's text and nothing that disturbs, a run is complete
-abbrev pub Completes : Outside → Outside → Status → Option (List ℕ) → Type 0
+-- with a model's text that says automata and nothing that disturbs, a run is complete
+abbrev pub Completes : Outside → Outside → Status → Option Request → Type 0
 Completes before now s None = ⊤
-Completes before now s (Some name) =
-    IfSome (before.shelf name) (λ text. (m : SimpleModel) → IsModelText text m → IsUndisturbed before now → IsComplete s)
+Completes before now s (Some r) =
+    IfSome (before.shelf (model_of r.command)) (λ text. (automata : List Automaton) → SaysAutomata text automata → IsUndisturbed before now → IsComplete s)
+
+-- ---- causes
 
 -- the causes of a status, also where no bytes are told
 abbrev pub HasCause : Outside → Outside → Status → Type 0
@@ -65,29 +78,6 @@ HasCause before now status.Words = IsUntouched before.streams now.streams
 HasCause before now status.Model = IsUntouched before.streams now.streams
 HasCause before now status.Clean = ⊤
 HasCause before now status.Alarm = ⊤
+HasCause before now status.Overflow = ⊤
 HasCause before now status.Limit = ⊤
 HasCause before now status.Memory = ⊤
-
--- the line of a status was told, or its first bytes where a write failed; nothing is said of want of memory
-abbrev pub IsTold : Option (List ℕ) → Option (List ℕ) → ℕ → ℕ → Status → Type 0
-IsTold old new before now status.Clean = TellsLine old new before now (line_of status.Clean)
-IsTold old new before now status.Alarm = TellsLine old new before now (line_of status.Alarm)
-IsTold old new before now status.Words = TellsLine old new before now (line_of status.Words)
-IsTold old new before now status.Model = TellsLine old new before now (line_of status.Model)
-IsTold old new before now status.ReadFault = TellsLine old new before now (line_of status.ReadFault)
-IsTold old new before now status.WriteFault = TellsLine old new before now (line_of status.WriteFault)
-IsTold old new before now status.Limit = TellsLine old new before now (line_of status.Limit)
-IsTold old new before now status.Memory = ⊤
-
--- ---- the parts of a run
-
--- what is said of a model that was read from this text
-pub record IsTheModel (text : List ℕ) (m : SimpleModel) : Type 0 where
-  pub text_of : IsModelText text m
-  pub only : (other : SimpleModel) → IsModelText text other → other ≡ m
-
--- why there is no model, as a status: the text is that of none, the shelf failed, or memory was wanted
-pub record LacksModel (told : Option (List ℕ)) (before now : ℕ) (s : Status) : Type 0 where
-  pub kind : (s ≡ status.Model) ⊎ ((s ≡ status.ReadFault) ⊎ (s ≡ status.Memory))
-  pub refused : s ≡ status.Model → IfSome told (λ text. (m : SimpleModel) → IsModelText text m → ⊥)
-  pub failed : s ≡ status.ReadFault → Rose before now

@@ -1,107 +1,117 @@
 //! The top call.
-ghost use Rattle.std.specs.Prelude.{◌≡◌, ◌⊎◌, ◌≤◌, ◌^◌, length, map, string_bytes, Some, IfOk, IfErr, IfSome};
-ghost use Rattle.hamon_engine.specs.declared.status.Status.TheVariants as status;
-ghost use Rattle.hamon_engine.specs.Codes.{line_of};
-ghost use Rattle.hamon_engine.specs.Words.{model_named};
-ghost use Rattle.hamon_engine.specs.Runs.{RunsWords, Completes, HasCause, IsTold, IsTheModel, LacksModel};
+ghost use Rattle.std.specs.Prelude.{◌≡◌, ◌≤◌, length, map, string_bytes, Some};
+ghost use Rattle.std.specs.Arc.{arc_value};
+ghost use Rattle.log_specs.specs.LogReports.{rules_of};
+ghost use Rattle.model_specs.specs.Automata.{HasOneOfEachName};
+ghost use Rattle.report_loop.specs.Outcome.{Says};
+ghost use Rattle.report_loop.specs.Tasks.{check_task};
+ghost use Rattle.command_words.specs.CommandLine.{request_of};
+ghost use Rattle.command_words.specs.Said.{said_command, said};
+ghost use Rattle.hamon_engine.specs.Runs.{model_of, model_text, RunsWords, Completes, HasCause};
+ghost use Rattle.hamon_engine.specs.Telling.{status_of, ended_by, IsTellable, IsTold};
 
-use crate::check::{report_log, write_all};
-use crate::model::SimpleModel;
-use crate::model_text::read_fields;
-use crate::session::Session;
-use crate::status::Status;
-use crate::words::model_name;
-use mon_io::{Shelf, ShelfFault, Sink, SinkFault, Source};
+use crate::models::{NoModels, models_from};
+use crate::telling::{Ended, tell};
+use command_words::{Command, Options, Request, WordsFault, read_words};
+use lha_model::Automaton;
+use mon_io::{Shelf, Sink, Source};
+use report_loop::{Status, report_log};
 use std::alloc::Global;
+use std::sync::Arc;
 
-/// The most bytes of a model's text: 2^20.
-const MODEL_LIMIT: usize = 1 << 20;
-
-/// The model of a text.
-fn model_of_text(alloc: Global, text: &[u8]) -> Result<SimpleModel, Status>
-    requires { length text.now ≤ 2 ^ 20 }
-    ensures model { IfOk result (IsTheModel text.now) }
-    ensures lack { IfErr result (LacksModel (Some text.now) 0 0) }
+/// Checks a log against the first of some automata, and writes its report, without the lines of runs.
+///
+/// There is at least one automaton. No two of them have one name, nor two variables or two locations of one of them, as in a
+/// model's text. It returns whenever the source and the sink do.
+pub fn check_log<L: Source, O: Sink>(
+    alloc: Global,
+    models: &[Arc<Automaton>],
+    options: &Options,
+    log: &mut L,
+    out: &mut O,
+) -> Status
+    requires some { 1 ≤ length models.now }
+    requires names { HasOneOfEachName (map (λ a. arc_value a) models.now) }
+    requires jumps { options.now.jumps ≤ 6 }
+    ensures { Says (rules_of (check_task (map (λ a. arc_value a) models.now) options.now.jumps))
+        (record { log = L.told log.old; log_faults = L.faults log.old; out = O.taken out.old; out_faults = O.faults out.old })
+        (record { log = L.told log.new; log_faults = L.faults log.new; out = O.taken out.new; out_faults = O.faults out.new })
+        result }
 {
-    let Some(fields) = read_fields(text) else {
-        return Err(Status::Model);
-    };
-    match SimpleModel::new(alloc, &fields) {
-        Ok(model) => Ok(model),
-        Err(_) => Err(Status::Memory),
+    report_log(alloc, models, options.jumps, log, out)
+}
+
+/// The name of a command's model.
+fn model_of<'a>(command: Command<'a>) -> &'a str
+    ensures { result.now ≡ model_of (said_command command.entry) }
+{
+    match command {
+        Command::Check { model } => model,
     }
 }
 
-/// The model that the shelf has under a name.
-fn model_from<S: Shelf>(alloc: Global, shelf: &mut S, name: &str) -> Result<SimpleModel, Status>
-    ensures model { IfOk result (λ m. IfSome (S.text shelf.old name.now) (λ text. IsTheModel text m)) }
-    ensures lack { IfErr result (LacksModel (S.text shelf.old name.now) (S.faults shelf.old) (S.faults shelf.new)) }
-    ensures later { S.faults shelf.old ≤ S.faults shelf.new }
+/// How a run ends that has no automata.
+fn ended_without(why: NoModels) -> Ended
+    ensures { ended_by why ≡ result }
 {
-    match shelf.text(alloc, name, MODEL_LIMIT) {
-        Ok(text) => model_of_text(alloc, &text),
-        Err(ShelfFault::Long) => Err(Status::Model),
-        Err(ShelfFault::Failed) => Err(Status::ReadFault),
-        Err(ShelfFault::Memory) => Err(Status::Memory),
+    match why {
+        NoModels::Refused(line) => Ended::Refused(line),
+        NoModels::Failed => Ended::At(Status::ReadFault),
+        NoModels::Memory => Ended::At(Status::Memory),
     }
 }
 
-/// Reads the words, the model and the log, and writes the report.
-fn check<S: Shelf, L: Source, O: Sink>(
+/// Does what words ask for, and tells how that ended.
+fn do_request<S: Shelf, L: Source, O: Sink>(
+    alloc: Global,
+    request: &Request<'_>,
+    shelf: &mut S,
+    log: &mut L,
+    out: &mut O,
+) -> Ended
+    requires jumps { request.now.options.jumps ≤ 6 }
+    ensures report { RunsWords
+        (record { streams = record { log = L.told log.old; log_faults = L.faults log.old; out = O.taken out.old; out_faults = O.faults out.old }; shelf = S.text shelf.old; shelf_faults = S.faults shelf.old })
+        (record { streams = record { log = L.told log.new; log_faults = L.faults log.new; out = O.taken out.new; out_faults = O.faults out.new }; shelf = S.text shelf.new; shelf_faults = S.faults shelf.new })
+        (status_of result) (Some (said request.now)) }
+    ensures cause { HasCause
+        (record { streams = record { log = L.told log.old; log_faults = L.faults log.old; out = O.taken out.old; out_faults = O.faults out.old }; shelf = S.text shelf.old; shelf_faults = S.faults shelf.old })
+        (record { streams = record { log = L.told log.new; log_faults = L.faults log.new; out = O.taken out.new; out_faults = O.faults out.new }; shelf = S.text shelf.new; shelf_faults = S.faults shelf.new })
+        (status_of result) }
+    ensures tellable { IsTellable (model_text (S.text shelf.old) (Some (said request.now))) result }
+{
+    match models_from(alloc, shelf, model_of(request.command)) {
+        Ok(models) => Ended::At(check_log(alloc, &models, &request.options, log, out)),
+        Err(why) => ended_without(why),
+    }
+}
+
+/// Reads the words, and does what they ask for.
+fn do_words<S: Shelf, L: Source, O: Sink>(
     alloc: Global,
     words: &[String],
     shelf: &mut S,
     log: &mut L,
     out: &mut O,
-) -> Status
+) -> Ended
     ensures report { RunsWords
         (record { streams = record { log = L.told log.old; log_faults = L.faults log.old; out = O.taken out.old; out_faults = O.faults out.old }; shelf = S.text shelf.old; shelf_faults = S.faults shelf.old })
         (record { streams = record { log = L.told log.new; log_faults = L.faults log.new; out = O.taken out.new; out_faults = O.faults out.new }; shelf = S.text shelf.new; shelf_faults = S.faults shelf.new })
-        result (model_named (map string_bytes words.now)) }
+        (status_of result) (request_of (map string_bytes words.now)) }
     ensures cause { HasCause
         (record { streams = record { log = L.told log.old; log_faults = L.faults log.old; out = O.taken out.old; out_faults = O.faults out.old }; shelf = S.text shelf.old; shelf_faults = S.faults shelf.old })
         (record { streams = record { log = L.told log.new; log_faults = L.faults log.new; out = O.taken out.new; out_faults = O.faults out.new }; shelf = S.text shelf.new; shelf_faults = S.faults shelf.new })
-        result }
+        (status_of result) }
+    ensures tellable { IsTellable (model_text (S.text shelf.old) (request_of (map string_bytes words.now))) result }
 {
-    let Some(name) = model_name(words) else {
-        return Status::Words;
-    };
-    let model = match model_from(alloc, shelf, name) {
-        Ok(model) => model,
-        Err(status) => return status,
-    };
-    let mut session = Session::new(model);
-    report_log(alloc, &mut session, log, out)
-}
-
-/// The line that tells the cause of a status; empty where there is nothing to tell.
-fn cause_line(ended: Status) -> &'static str
-    ensures { result.now ≡ line_of ended }
-{
-    match ended {
-        Status::Clean | Status::Alarm => "",
-        Status::Words => "hamon: words\n",
-        Status::Model => "hamon: model: form\n",
-        Status::ReadFault => "hamon: read fault\n",
-        Status::WriteFault => "hamon: write fault\n",
-        Status::Memory => "hamon: memory\n",
-        Status::Limit => "hamon: limit\n",
+    match read_words(alloc, words) {
+        Ok(request) => do_request(alloc, &request, shelf, log, out),
+        Err(WordsFault::Refused) => Ended::At(Status::Words),
+        Err(WordsFault::Memory) => Ended::At(Status::Memory),
     }
 }
 
-/// Tells the cause of a status. Where a write fails the rest of the line is dropped; want of memory becomes the status.
-fn tell<D: Sink>(diag: &mut D, ended: Status) -> Status
-    ensures same { (result ≡ ended) ⊎ (result ≡ status.Memory) }
-    ensures told { IsTold (D.taken diag.old) (D.taken diag.new) (D.faults diag.old) (D.faults diag.new) result }
-{
-    match write_all(diag, cause_line(ended).as_bytes()) {
-        Ok(()) => ended,
-        Err(SinkFault::Failed) => ended,
-        Err(SinkFault::Memory) => Status::Memory,
-    }
-}
-
-/// Runs `hamon` on the words of its command line.
+/// Runs `hamon` on the words of its command line, without the program's name.
 ///
 /// `check MODEL` reads the model's text from the shelf and the log from its source, and writes the report of the log to `out`.
 /// One line on `diag` tells why a run ended early. Only want of memory is answered freely.
@@ -117,13 +127,13 @@ pub fn run<S: Shelf, L: Source, O: Sink, D: Sink>(
     ensures report { RunsWords
         (record { streams = record { log = L.told log.old; log_faults = L.faults log.old; out = O.taken out.old; out_faults = O.faults out.old }; shelf = S.text shelf.old; shelf_faults = S.faults shelf.old })
         (record { streams = record { log = L.told log.new; log_faults = L.faults log.new; out = O.taken out.new; out_faults = O.faults out.new }; shelf = S.text shelf.new; shelf_faults = S.faults shelf.new })
-        result (model_named (map string_bytes words.now)) }
+        result (request_of (map string_bytes words.now)) }
 
     // Nothing but want of memory keeps it from the end of the log, where no object failed.
     ensures complete { Completes
         (record { streams = record { log = L.told log.old; log_faults = L.faults log.old; out = O.taken out.old; out_faults = O.faults out.old }; shelf = S.text shelf.old; shelf_faults = S.faults shelf.old })
         (record { streams = record { log = L.told log.new; log_faults = L.faults log.new; out = O.taken out.new; out_faults = O.faults out.new }; shelf = S.text shelf.new; shelf_faults = S.faults shelf.new })
-        result (model_named (map string_bytes words.now)) }
+        result (request_of (map string_bytes words.now)) }
 
     // A fault is blamed only where a count rose.
     ensures cause { HasCause
@@ -131,8 +141,9 @@ pub fn run<S: Shelf, L: Source, O: Sink, D: Sink>(
         (record { streams = record { log = L.told log.new; log_faults = L.faults log.new; out = O.taken out.new; out_faults = O.faults out.new }; shelf = S.text shelf.new; shelf_faults = S.faults shelf.new })
         result }
 
-    ensures told { IsTold (D.taken diag.old) (D.taken diag.new) (D.faults diag.old) (D.faults diag.new) result }
+    // The line that tells the cause, also what is wrong with the model's text.
+    ensures told { IsTold (model_text (S.text shelf.old) (request_of (map string_bytes words.now))) (D.taken diag.old) (D.taken diag.new) (D.faults diag.old) (D.faults diag.new) result }
 {
-    let ended = check(alloc, words, shelf, log, out);
-    tell(diag, ended)
+    let ended = do_words(alloc, words, shelf, log, out);
+    tell(diag, &ended)
 }

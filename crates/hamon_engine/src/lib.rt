@@ -1,22 +1,13 @@
 //! The monitor's top call: reads its words, a model and a log, and writes the report.
 #![tactic(auto)]
 
-mod blocks;
-mod check;
 mod command;
-mod digits;
-mod model;
-mod model_text;
-mod names;
-mod numbers;
-mod pieces;
-mod rows;
-mod session;
-mod status;
-mod words;
+mod models;
+mod telling;
 
-pub use command::run;
-pub use status::Status;
+pub use command::{check_log, run};
+pub use command_words::{Options, RunsMode};
+pub use report_loop::Status;
 
 #[cfg(test)]
 mod tests;

@@ -1,0 +1,20 @@
+use Rattle.std.proofs.Common.{ℕ, List, map, subst}
+use Rattle.std.specs.Prelude.{IfSome}
+use Rattle.std.specs.Arc.{arc_value}
+use Rattle.command_words.specs.Said.{said}
+use Rattle.hamon_engine.specs.Models.{AreModelsOf, LacksModels}
+use Rattle.hamon_engine.proofs.RunLemmas.{lacks_runs, says_runs}
+use Rattle.hamon_engine.proofs.command.do_request.Goals as goal
+
+pub returns-in-Ok-clause-report : goal.returns-in-Ok-clause-report
+returns-in-Ok-clause-report g c =
+    let named =
+    subst (λ (name : List ℕ). IfSome (g.S.Shelf.text c.args.shelf.now name) (λ text. AreModelsOf text (map (λ a. arc_value a) c.in-Ok.models.items))) c.model_of.ensures c.in-Ok.ensures.models in
+    says_runs _ _ (g.S.Shelf.text c.args.shelf.now) _ _ _ c.check_log.result (map (λ a. arc_value a) c.deref.result.now) (said c.args.request.now)
+    (rw c.deref.ensures.value named) c.check_log.ensures
+
+pub returns-in-Err-clause-report : goal.returns-in-Err-clause-report
+returns-in-Err-clause-report g c =
+    rw (← c.ended_without.ensures)
+    (lacks_runs _ (g.S.Shelf.text c.args.shelf.now) _ _ _ c.in-Err.why (said c.args.request.now)
+    (subst (λ (name : List ℕ). LacksModels (g.S.Shelf.text c.args.shelf.now name) (g.S.Shelf.faults c.args.shelf.now) (g.S.Shelf.faults c.models_from.new.shelf) c.in-Err.why) c.model_of.ensures c.in-Err.ensures.lack))
