@@ -5,3 +5,4 @@ pub mod BoundLemmas
 pub mod DividedLemmas
 pub mod EntailLemmas
 pub mod InclusionLemmas
+pub mod PruneLemmas

@@ -8,6 +8,8 @@ mod caps;
 mod emptiness;
 mod entailment;
 mod inclusion;
+mod multiples;
+mod pruning;
 mod sums;
 #[cfg(test)]
 mod tests;
@@ -18,6 +20,7 @@ pub use emptiness::is_empty;
 pub use entailment::entails;
 use frac128::Frac;
 pub use inclusion::includes;
+pub use pruning::prune;
 
 /// The bound of a sum from above, over the points of a system.
 #[derive(Clone, Copy, Debug, PartialEq, Eq)]

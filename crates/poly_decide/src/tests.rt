@@ -3,7 +3,7 @@
 ghost use Rattle.std.specs.Prelude.{◌↔◌, All, IsTrue};
 ghost use Rattle.poly_specs.specs.Bits.{FitsBits};
 
-use crate::{Bound, entails, includes, is_empty, sup};
+use crate::{Bound, entails, includes, is_empty, prune, sup};
 use fm_eliminate::{RowFault, System};
 use frac128::Frac;
 use lin_row::Row;
@@ -231,5 +231,80 @@ fn passes(rt: HostRuntime) -> Result<(), Fail> {
     assert!(rt; matches!(entailed(&rt, alloc, &s, &x), Err(RowFault::Passes)));
     // Each row dominates itself, and nothing is formed.
     assert!(rt; matches!(included(&rt, alloc, &s, &s), Ok(true)));
+    Ok(())
+}
+
+#[test]
+fn prunes_rows(rt: HostRuntime) -> Result<(), Fail> {
+    let alloc = rt.alloc();
+    // The rows, and the places of those that are left.
+    let table: [(usize, &[Given<'_>], &[usize]); 9] = [
+        // x <= 1, x <= 2, x >= 0
+        (
+            1,
+            &[(&[1], -1, false), (&[1], -2, false), (&[-1], 0, false)],
+            &[0, 2],
+        ),
+        // x <= 1 and x < 1
+        (1, &[(&[1], -1, false), (&[1], -1, true)], &[1]),
+        // x = 1/3 and x <= 1
+        (
+            1,
+            &[(&[3], -1, false), (&[-3], 1, false), (&[1], -1, false)],
+            &[0, 1],
+        ),
+        // x + y <= 3 is the sum of the first two rows with 0 <= 1, x + y <= 2 is not
+        (
+            2,
+            &[
+                (&[1, 0], -1, false),
+                (&[0, 1], -1, false),
+                (&[1, 1], -3, false),
+            ],
+            &[0, 1],
+        ),
+        (
+            2,
+            &[
+                (&[1, 0], -2, false),
+                (&[0, 1], -1, false),
+                (&[1, 1], -2, false),
+            ],
+            &[0, 1, 2],
+        ),
+        // the corner of a triangle, and what its sides imply
+        (
+            2,
+            &[
+                (&[1, 0], -2, false),
+                (&[-1, 0], 0, false),
+                (&[0, -1], 0, false),
+                (&[1, 2], -2, false),
+            ],
+            &[1, 2, 3],
+        ),
+        // a sum of closed rows that is strict
+        (
+            2,
+            &[
+                (&[1, 0], -1, false),
+                (&[0, 1], -1, false),
+                (&[1, 1], -2, true),
+            ],
+            &[0, 1, 2],
+        ),
+        // no row but one that always holds
+        (1, &[(&[0], -1, false)], &[]),
+        (0, &[(&[], 1, false)], &[0]),
+    ];
+    for (width, given, want) in table {
+        let all = system(&rt, alloc, width, given)?;
+        let left = prune(alloc, &all)?;
+        assert!(rt; left.rows().len() == want.len());
+        for (row, place) in left.rows().iter().zip(want) {
+            assert!(rt; *place < all.rows().len());
+            assert!(rt; *row == all.rows()[*place]);
+        }
+    }
     Ok(())
 }

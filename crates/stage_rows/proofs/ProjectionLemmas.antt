@@ -6,7 +6,9 @@ use Rattle.std.proofs.lemmas.List.{append-nil, length-append}
 use Rattle.std.proofs.lemmas.List.Elements.{All-from_recursion}
 use Rattle.poly_specs.proofs.DownLemmas.{columns_projected}
 use Rattle.poly_specs.proofs.InclusionLemmas.{in_left}
-use Rattle.poly_specs.proofs.EliminationLemmas.{out_map, in_map, width_in}
+use Rattle.poly_decide.proofs.PruneLemmas.{sublist_among}
+use Rattle.poly_decide.specs.Pruned.{IsPruned}
+use Rattle.poly_specs.proofs.EliminationLemmas.{out_map, in_map, width_in, AllHold-from_in, AllHold-at_in}
 use Rattle.fm_eliminate.proofs.LeavingLemmas.{all_from_in}
 use Rattle.fm_eliminate.proofs.PivotLemmas.{each_in}
 use Rattle.run_specs.proofs.EndLemmas.{all_cut}
@@ -82,3 +84,15 @@ module _ (s : System) (c : ℕ) (left : List Row) (within : c ≤ s.width) (wide
         λ h. there.1 (law.1 (same.0 (here.0 h))),
         λ h. here.1 (same.1 (law.0 (there.0 h))),
       )
+
+-- ---- what is left without rows that others imply
+
+module _ (first : ℕ) (all few : System) (after : List Row) (width : all.width ≡ first) (pruned : IsPruned all few) where
+  pub pruned_plain : IsAmong all.rows after → IsAmong few.rows after
+  pruned_plain plain r i = plain r (sublist_among few.rows all.rows pruned.thinned.some r i)
+
+  pub pruned_same : (p : Point) → pos 0 <ℤ p.den → length p.num ≡ first → AllHold all.rows p ↔ AllHold after p → AllHold few.rows p ↔ AllHold after p
+  pruned_same p d l same = (
+    λ h. same.0 (pruned.thinned.enough p (record { positive = d; sized = l ∙ sym width; holds = h })),
+    λ h. let whole = same.1 h in AllHold-from_in few.rows p (λ r i. AllHold-at_in all.rows p whole r (sublist_among few.rows all.rows pruned.thinned.some r i)),
+  )

@@ -1,0 +1,180 @@
+//! Systems without the rows that others of their rows imply.
+
+ghost use Rattle.std.specs.Prelude.{◌≡◌, ◌+◌, ◌<◌, ◌≤◌, ◌++◌, ◌∷◌, [], List, IsTrue, IfOk, OnOk, length, take, drop};
+ghost use Rattle.poly_specs.specs.Bounds.{Entails};
+ghost use Rattle.poly_specs.specs.Lists.{IsAmong};
+ghost use Rattle.poly_specs.specs.Rows.{Row as RowValue, AllWide};
+ghost use Rattle.poly_decide.specs.Pruned.{IsPruned, IsThinned};
+
+use crate::entailment::entails;
+use crate::multiples::implying_rows;
+use fm_eliminate::{RowFault, System};
+use lin_row::Row;
+use std::alloc::{AllocError, Global};
+
+/// A system with the same points, of some of the rows in their order.
+///
+/// A row is dropped where a few others that are left are found to imply it. They are searched with
+/// floats, which nothing else depends on, and then it is decided exactly. Where they are not found,
+/// where deciding passes 128 bits, and in systems of 14 columns, the row stays.
+pub fn prune(alloc: Global, s: &System) -> Result<System, AllocError>
+    ensures { IfOk result (λ t. IsPruned s.now t) }
+{
+    let width = s.width();
+    let rows = thinned(alloc, width, s.rows())?;
+    Ok(of_rows(width, rows))
+}
+
+/// The system of rows that have its width.
+fn of_rows(width: usize, rows: Vec<Row>) -> System
+    requires few { width ≤ 14 }
+    requires wide { AllWide width rows.items }
+    ensures { result ≡ record { width = width; rows = rows.items } }
+{
+    System::make(width, rows).unwrap()
+}
+
+/// Some of the rows, with the same points: first without those that rows before them are found to
+/// imply, so that the search among all others is one among few.
+fn thinned(alloc: Global, width: usize, rows: &[Row]) -> Result<Vec<Row>, AllocError>
+    requires wide { AllWide width rows.now }
+    ensures thinned { IfOk result (λ v. IsThinned width rows.now v.items) }
+    ensures wide { IfOk result (λ v. AllWide width v.items) }
+{
+    let few = without_late(alloc, width, rows)?;
+    let left = without_implied(alloc, width, few)?;
+    Ok(left)
+}
+
+/// The rows without those that are found to be implied by rows before them.
+fn without_late(alloc: Global, width: usize, rows: &[Row]) -> Result<Vec<Row>, AllocError>
+    requires wide { AllWide width rows.now }
+    ensures thinned { IfOk result (λ v. IsThinned width rows.now v.items) }
+    ensures wide { IfOk result (λ v. AllWide width v.items) }
+{
+    let mut left = Vec::new(alloc);
+    for row in rows {
+        add_needed(alloc, width, &mut left, row)?;
+    }
+    Ok(left)
+}
+
+/// Adds the row, unless it is found to be implied.
+fn add_needed(alloc: Global, width: usize, left: &mut Vec<Row>, row: &Row) -> Result<(), AllocError>
+    requires wide { AllWide width left.old.items }
+    requires width { length row.now.coef ≡ width }
+    ensures { OnOk result ((rows : List RowValue) → IsThinned width rows left.old.items → IsThinned width (rows ++ row.now ∷ []) left.new.items) }
+{
+    if is_implied(alloc, width, left.as_slice(), row)? {
+        return Ok(());
+    }
+    left.push(row.copy())?;
+    Ok(())
+}
+
+/// The rows without those that are found to be implied by the others.
+fn without_implied(alloc: Global, width: usize, rows: Vec<Row>) -> Result<Vec<Row>, AllocError>
+    requires wide { AllWide width rows.items }
+    ensures { IfOk result (λ v. IsThinned width rows.items v.items) }
+{
+    let count = rows.len();
+    let mut left = rows;
+    for done in 0..count {
+        left = without_one(alloc, width, left, count - 1 - done)?;
+    }
+    Ok(left)
+}
+
+/// The rows without the one at this place, if it is found to be implied by the others.
+fn without_one(
+    alloc: Global,
+    width: usize,
+    rows: Vec<Row>,
+    place: usize,
+) -> Result<Vec<Row>, AllocError>
+    requires wide { AllWide width rows.items }
+    ensures { IfOk result (λ v. IsThinned width rows.items v.items) }
+{
+    if place >= rows.len() {
+        return Ok(rows);
+    }
+    let others = others_of(alloc, rows.as_slice(), place)?;
+    if is_implied(alloc, width, others.as_slice(), &rows[place])? {
+        return Ok(others);
+    }
+    Ok(rows)
+}
+
+/// The rows without the one at this place.
+fn others_of(alloc: Global, rows: &[Row], place: usize) -> Result<Vec<Row>, AllocError>
+    requires within { place < length rows.now }
+    ensures { IfOk result (λ v. v.items ≡ take place rows.now ++ drop (place + 1) rows.now) }
+{
+    let mut others = Vec::with_capacity(alloc, rows.len())?;
+    add_copies(&mut others, &rows[..place])?;
+    add_copies(&mut others, &rows[place + 1..])?;
+    Ok(others)
+}
+
+fn add_copies(rows: &mut Vec<Row>, more: &[Row]) -> Result<(), AllocError>
+    ensures { OnOk result (rows.new.items ≡ rows.old.items ++ more.now) }
+{
+    for row in more {
+        rows.push(row.copy())?;
+    }
+    Ok(())
+}
+
+/// Whether some of the rows are found to imply the row.
+fn is_implied(alloc: Global, width: usize, rows: &[Row], row: &Row) -> Result<bool, AllocError>
+    requires wide { AllWide width rows.now }
+    requires width { length row.now.coef ≡ width }
+    ensures { IfOk result (λ b. IsTrue b → Entails width rows.now row.now) }
+{
+    if width > 13 {
+        return Ok(false);
+    }
+    let Some(places) = implying_rows(alloc, rows, row)? else {
+        return Ok(false);
+    };
+    let few = rows_at(alloc, rows, places.as_slice())?;
+    let answer = do_imply(alloc, width, few, row)?;
+    Ok(answer)
+}
+
+/// The rows at these places, where there are any.
+fn rows_at(alloc: Global, rows: &[Row], places: &[usize]) -> Result<Vec<Row>, AllocError>
+    ensures { IfOk result (λ v. IsAmong v.items rows.now) }
+{
+    let mut some = Vec::new(alloc);
+    for place in places {
+        add_at(rows, *place, &mut some)?;
+    }
+    Ok(some)
+}
+
+fn add_at(rows: &[Row], place: usize, some: &mut Vec<Row>) -> Result<(), AllocError>
+    requires { IsAmong some.old.items rows.now }
+    ensures { OnOk result (IsAmong some.new.items rows.now) }
+{
+    if place >= rows.len() {
+        return Ok(());
+    }
+    some.push(rows[place].copy())?;
+    Ok(())
+}
+
+/// Whether the rows are shown to imply the row: not where deciding this passes 128 bits.
+fn do_imply(alloc: Global, width: usize, rows: Vec<Row>, row: &Row) -> Result<bool, AllocError>
+    requires wide { AllWide width rows.items }
+    requires width { length row.now.coef ≡ width }
+    requires few { width ≤ 13 }
+    ensures { IfOk result (λ b. IsTrue b → Entails width rows.items row.now) }
+{
+    let system = of_rows(width, rows);
+    match entails(alloc, &system, row) {
+        Ok(answer) => Ok(answer),
+        Err(RowFault::Passes) => Ok(false),
+        Err(RowFault::Memory) => Err(AllocError),
+    }
+}
