@@ -6,7 +6,8 @@ use Rattle.std.proofs.lemmas.List.{append-nil, length-append}
 use Rattle.std.proofs.lemmas.List.Elements.{All-from_recursion}
 use Rattle.poly_specs.proofs.DownLemmas.{columns_projected}
 use Rattle.poly_specs.proofs.InclusionLemmas.{in_left}
-use Rattle.poly_decide.proofs.PruneLemmas.{sublist_among}
+use Rattle.fm_eliminate.proofs.LevelLemmas.{last_level, level_step}
+use Rattle.poly_decide.proofs.PruneLemmas.{sublist_among, wide_among}
 use Rattle.poly_decide.specs.Pruned.{IsPruned}
 use Rattle.poly_specs.proofs.EliminationLemmas.{out_map, in_map, width_in, AllHold-from_in, AllHold-at_in}
 use Rattle.fm_eliminate.proofs.LeavingLemmas.{all_from_in}
@@ -17,9 +18,9 @@ use Rattle.poly_specs.specs.Columns.{cut}
 use Rattle.poly_specs.specs.Elimination.{eliminated_each, columns_down}
 use Rattle.poly_specs.specs.Lists.{In, IsAmong}
 use Rattle.poly_specs.specs.Rows.{Point, Row, over, coef_at, AllHold, AllWide, SomeValuesHold}
-use Rattle.poly_specs.specs.Systems.{System, Levels, IsLevel, AreLevels, no_system}
+use Rattle.poly_specs.specs.Systems.{System, IsLevel, IsProjection}
 use Rattle.run_specs.specs.Stages.{zeros, rows_after}
-use Rattle.stage_rows.specs.Projecting.{projecting}
+use Rattle.stage_rows.specs.Projecting.{projecting, IsLevelOf}
 
 -- ---- the columns that are cut off hold zeros
 
@@ -33,23 +34,6 @@ pub free_zeros : (w c : ℕ) (rows left : List Row) → IsLevel w c rows left �
 free_zeros w c rows left level = all_from_in (λ r. All (λ z. z ≡ pos 0) (drop c r.coef)) left (λ r i.
     All-from_recursion (λ z. z ≡ pos 0) (drop c r.coef) (zeros_from c w r.coef (width_in w left level.wide r i)
     (λ x h g. each_in (λ s. coef_at x s ≡ pos 0) left (level.free x h g) r i)))
-
--- ---- the first level
-
-first_of : (systems : List System) (head : System) → 0 < length systems → head ≡ get_or systems 0 head → slice_index_or systems 0 no_system ≡ head
-first_of [] head h e = absurd (omega arith)
-first_of (t ∷ systems) head h e = sym e
-
-pub first_level : (c : ℕ) (s head : System) (levels : Levels) → c ≤ s.width → AreLevels c s levels → head ≡ get_or levels.systems 0 head →
-    (head.width ≡ s.width) × IsLevel s.width c s.rows head.rows
-first_level c s head levels h are e =
-    let some : 0 < length levels.systems = let n = are.one_for_each in omega (arith, n) in
-    let first = first_of levels.systems head some e in
-    let from_first : c + 0 ≡ c = omega arith in (
-      ap (λ t. t.width) (sym first) ∙ are.widths 0 no_system some,
-      subst (λ t. IsLevel s.width c s.rows t.rows) first
-          (subst (λ n. IsLevel s.width n s.rows (slice_index_or levels.systems 0 no_system).rows) from_first (are.each 0 (omega arith))),
-    )
 
 -- ---- the rows that are left
 
@@ -85,14 +69,30 @@ module _ (s : System) (c : ℕ) (left : List Row) (within : c ≤ s.width) (wide
         λ h. here.1 (same.1 (law.0 (there.0 h))),
       )
 
--- ---- what is left without rows that others imply
+-- ---- one column after the other
 
-module _ (first : ℕ) (all few : System) (after : List Row) (width : all.width ≡ first) (pruned : IsPruned all few) where
-  pub pruned_plain : IsAmong all.rows after → IsAmong few.rows after
-  pruned_plain plain r i = plain r (sublist_among few.rows all.rows pruned.thinned.some r i)
+pub whole_level : (s : System) → AllWide s.width s.rows → IsLevelOf s s.width s
+whole_level s wide = record { same_width = refl; level = last_level s.width s.rows wide }
 
-  pub pruned_same : (p : Point) → pos 0 <ℤ p.den → length p.num ≡ first → AllHold all.rows p ↔ AllHold after p → AllHold few.rows p ↔ AllHold after p
-  pruned_same p d l same = (
-    λ h. same.0 (pruned.thinned.enough p (record { positive = d; sized = l ∙ sym width; holds = h })),
-    λ h. let whole = same.1 h in AllHold-from_in few.rows p (λ r i. AllHold-at_in all.rows p whole r (sublist_among few.rows all.rows pruned.thinned.some r i)),
-  )
+-- some of the rows, with the same points, are as good a level
+pub thinned_level : (s all few : System) (c : ℕ) → all.width ≡ s.width → IsLevel s.width c s.rows all.rows → IsPruned all few → IsLevelOf s c few
+thinned_level s all few c width level pruned =
+    let among = sublist_among few.rows all.rows pruned.thinned.some in
+    record {
+      same_width = pruned.same_width ∙ width;
+      level = record {
+        wide = wide_among s.width all.rows few.rows level.wide among;
+        free = λ x h g. all_from_in (λ r. coef_at x r ≡ pos 0) few.rows (λ r i. each_in (λ t. coef_at x t ≡ pos 0) all.rows (level.free x h g) r (among r i));
+        plain = λ r i. level.plain r (among r i);
+        same = λ p d l. (
+          λ h. (level.same p d l).0 (pruned.thinned.enough p (record { positive = d; sized = l ∙ sym width; holds = h })),
+          λ h. let whole = (level.same p d l).1 h in AllHold-from_in few.rows p (λ r i. AllHold-at_in all.rows p whole r (among r i)),
+        );
+      };
+    }
+
+pub next_level : (s left all few : System) (x : ℕ) → x < s.width → AllWide s.width s.rows → IsLevelOf s (x + 1) left → all.width ≡ left.width →
+    IsProjection left.width x left.rows all.rows → IsPruned all few → IsLevelOf s x few
+next_level s left all few x within wide before width projection pruned =
+    let here = subst (λ w. IsProjection w x left.rows all.rows) before.same_width projection in
+    thinned_level s all few x (width ∙ before.same_width) (level_step s.width x s.rows left.rows all.rows within wide before.level here) pruned
