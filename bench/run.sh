@@ -75,7 +75,7 @@ program=$here/crates/hamon/out/hamon
 
 measure 'cabin' "$folder/cabin.lha" "$folder/cabin.csv"
 measure '40 blanks' "$folder/level.lha" "$folder/level.csv"
-for plant in battery; do
+for plant in tanks platoon battery; do
     for log in "$here/examples/$plant"/*.csv; do
         measure "$plant $(basename "$log" .csv)" "$here/examples/$plant/$plant.lha" "$log"
     done
