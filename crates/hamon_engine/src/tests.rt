@@ -377,7 +377,7 @@ fn many_samples_are_judged(rt: HostRuntime) -> Result<(), Fail> {
     let alloc = rt.alloc();
     let mut log = String::from_str(alloc, "time,temp,level\n")?;
     let mut written = String::new(alloc);
-    for i in 0..60 {
+    for i in 0..1000 {
         let row = cabin_row(alloc, i)?;
         log.push_str(&row)?;
         let number = i + 2;

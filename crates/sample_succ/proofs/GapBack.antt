@@ -42,7 +42,7 @@ difference_times : (x y k : ℤ) → (x -ℤ y) *ℤ k ≡ (x *ℤ k) -ℤ (y *�
 difference_times x y k = simp expand (omega (arith, products))
 
 -- points with one more number are equal where both parts are
-last_same : (c d e f : ℤ) (v w : List ℤ) → length v ≡ length w → SamePoint (over c (v ++ e ∷ [])) (over d (w ++ f ∷ [])) →
+pub last_same : (c d e f : ℤ) (v w : List ℤ) → length v ≡ length w → SamePoint (over c (v ++ e ∷ [])) (over d (w ++ f ∷ [])) →
     (scaled d v ≡ scaled c w) × (e *ℤ d ≡ f *ℤ c)
 last_same c d e f v w l same =
     let whole : scaled d v ++ (e *ℤ d) ∷ [] ≡ scaled c w ++ (f *ℤ c) ∷ [] = sym (scaled-append d v (e ∷ [])) ∙ same ∙ scaled-append c w (f ∷ []) in
@@ -186,21 +186,21 @@ module _ (a : Automaton) (wf : IsWellFormed a) where
 
   -- ---- a path
 
-  record PathBack (l : ℕ) (path : List ℕ) (state : List Row) (y : Point) : Type 0 where
-    den : ℤ
-    start : List ℤ
-    elapsed : ℤ
-    moves : List Move
-    last : Leg
-    positive : pos 0 <ℤ den
-    sized : length start ≡ width a
-    sized_end : length last.at_end ≡ width a
-    starts : AllHold state (over den (start ++ elapsed ∷ []))
-    leads : LeadOn a den l start moves last
-    along : transitions moves ≡ path
-    ends : SamePoint y (over den (last.at_end ++ (elapsed +ℤ total moves last) ∷ []))
+  pub record PathBack (l : ℕ) (path : List ℕ) (state : List Row) (y : Point) : Type 0 where
+    pub den : ℤ
+    pub start : List ℤ
+    pub elapsed : ℤ
+    pub moves : List Move
+    pub last : Leg
+    pub positive : pos 0 <ℤ den
+    pub sized : length start ≡ width a
+    pub sized_end : length last.at_end ≡ width a
+    pub starts : AllHold state (over den (start ++ elapsed ∷ []))
+    pub leads : LeadOn a den l start moves last
+    pub along : transitions moves ≡ path
+    pub ends : SamePoint y (over den (last.at_end ++ (elapsed +ℤ total moves last) ∷ []))
 
-  path_back : (l : ℕ) (path : List ℕ) (state : List Row) (d : ℤ) (ns : List ℤ) → l < length a.locations → Fits a l path → AllWide (width a + 1) state → pos 0 <ℤ d → length ns ≡ width a + 1 →
+  pub path_back : (l : ℕ) (path : List ℕ) (state : List Row) (d : ℤ) (ns : List ℤ) → l < length a.locations → Fits a l path → AllWide (width a + 1) state → pos 0 <ℤ d → length ns ≡ width a + 1 →
       AllHold (path_rows a l path state) (over d ns) → PathBack l path state (over d ns)
   path_back l [] state d ns hl fits wide hd ln h =
       let (d3, q3, e3, t3, p3, L) = (leg_ends a l state d ns (location_is a wf l hl) wide hd ln).0 h in

@@ -6,6 +6,7 @@ pub mod SampleRows
 pub mod PlainLemmas
 pub mod StartLemmas
 pub mod PathLemmas
+pub mod LateLemmas
 pub mod NodeLemmas
 pub mod ItemLemmas
 pub mod WalkLemmas

@@ -12,7 +12,7 @@ use Rattle.run_specs.proofs.GapEnds.{AllReached}
 use Rattle.sample_succ.proofs.StageFacts.{passes_more, numbers_more, leg_within, jump_within}
 use Rattle.run_specs.proofs.PassesLemmas.{after_more, leg_more, leg_rows_more, jump_more, jump_rows_more, sample_rows_more}
 use Rattle.run_specs.proofs.SampleEnds.{sample_ends}
-use Rattle.run_specs.proofs.StageWidths.{location_is, transition_is, end_within, start_wide, leg_after_wide}
+use Rattle.run_specs.proofs.StageWidths.{location_is, transition_is, end_within, start_wide, leg_after_wide, jump_wide_of}
 use Rattle.run_specs.specs.Automaton.{Automaton, width, location_at, transition_at}
 use Rattle.run_specs.specs.Ends.{SomeLegEnds, SomeJumpEnds, SomeSampleEnds}
 use Rattle.run_specs.specs.Keys.{Key, IsKey, no_state, parent_at}
@@ -20,10 +20,11 @@ use Rattle.run_specs.specs.Outcomes.{MayTake, IsEnd, KeyPasses, loc_after}
 use Rattle.run_specs.specs.Passes.{Fits}
 use Rattle.run_specs.specs.Stages.{Stage, SomeReachedPasses, rows_after, stage_numbers, gap_start, leg_rows, leg_stage, jump_rows, jump_stage, sample_rows, sample_stage, path_rows, path_stages, gap_stages, gap_rows}
 use Rattle.run_specs.specs.WellFormed.{IsWellFormed}
-use Rattle.sample_succ.specs.Plain.{IsPlain}
+use Rattle.sample_succ.specs.Plain.{IsPlain, in_time}
 use Rattle.sample_succ.specs.Walks.{before_rows, before_stages, HavePoints, plain_before, plain_after, IsNodeAt, IsAfter}
 use Rattle.sample_succ.proofs.GapExact.{gap_case, gap_exact, all_reached}
-use Rattle.sample_succ.proofs.PathLemmas.{end_more, fits_more, before_more, stages_more, path_stages_at, path_rows_at, path_rows_end, before_wide}
+use Rattle.sample_succ.proofs.LateLemmas.{starts_in_time}
+use Rattle.sample_succ.proofs.PathLemmas.{end_more, fits_more, fits_rest, before_more, stages_more, path_stages_at, path_rows_at, path_rows_end, before_wide}
 use Rattle.sample_succ.proofs.PlainLemmas.{plain_then}
 
 -- ---- points
@@ -179,9 +180,23 @@ module _ (key : Key) (wf : IsWellFormed key.automaton) (is : IsKey key) where
   pub no_leg : (i : ℕ) (path other : List ℕ) (q : Point) → (HasPoint (width key.automaton + 1) (plain_after key i path) → ⊥) → MayTake key i (path ++ other) → IsEnd key i (path ++ other) q → ⊥
   no_leg i path other q none may e = none (first_point (loc_after key i path) other (plain_before key i path) _ (rest_reached i path other q may e))
 
-  pub no_jump : (i : ℕ) (path : List ℕ) (e : ℕ) (other : List ℕ) (q : Point) → (HasPoint (width key.automaton + 1) (rows_after (jump_stage key.automaton e (plain_after key i path))) → ⊥) →
+  pub no_jump : (i : ℕ) (path : List ℕ) (e : ℕ) (other : List ℕ) (q : Point) → MayTake key i path →
+      (HasPoint (width key.automaton + 1) (in_time key (rows_after (jump_stage key.automaton e (plain_after key i path)))) → ⊥) →
       MayTake key i (path ++ e ∷ other) → IsEnd key i (path ++ e ∷ other) q → ⊥
-  no_jump i path e other q none may end = none (rest_reached i path (e ∷ other) q may end).1.0
+  no_jump i path e other q here none may end =
+      let l : ℕ = (parent_at key i).loc in
+      let target : ℕ = (transition_at a e).target in
+      let start : List Row = gap_start m (parent_at key i).rows in
+      let next : List Row = rows_after (jump_stage a e (plain_after key i path)) in
+      let fits = fits_rest a l path (e ∷ other) may.fits in
+      let wide : AllWide (m + 1) next = jump_wide_of a wf e (plain_after key i path) fits.0 (after_wide i path here) in
+      let held : AllHold (gap_rows a l (path ++ e ∷ other) key.gap key.seen (parent_at key i).rows) q = (gap_exact key i (path ++ e ∷ other) q wf is may end.positive end.sized).1 end in
+      let same : path_rows a l (path ++ e ∷ other) start ≡ path_rows a target other next = path_rows_at a l path (e ∷ other) start in
+      let after : AllHold (rows_after (sample_stage a key.gap key.seen (path_rows a target other next))) q =
+      subst (λ rs. AllHold (rows_after (sample_stage a key.gap key.seen rs)) q) same held in
+      let case = gap_case key i wf is may.parent in
+      none (starts_in_time a wf target other key.gap key.seen next q.den q.num case.tolerances case.values case.sized is.gap.0.positive
+      (transition_is a wf e fits.0).target fits.2 wide end.positive end.sized after)
 
   -- ---- the next node
 

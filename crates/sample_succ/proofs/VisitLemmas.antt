@@ -8,14 +8,15 @@ use Rattle.run_specs.specs.Automaton.{Automaton, width, location_at, transition_
 use Rattle.run_specs.specs.Keys.{Key, IsKey, parent_at}
 use Rattle.run_specs.specs.Outcomes.{Item, MayTake, KeyPasses, loc_after, mark_after}
 use Rattle.run_specs.specs.Runs.{end_loc}
-use Rattle.run_specs.specs.Stages.{Stage, rows_after, stage_numbers, leg_stage, jump_stage, sample_stage}
+use Rattle.run_specs.specs.Stages.{Stage, rows_after, stage_numbers, at_most, leg_stage, jump_stage, sample_stage}
 use Rattle.run_specs.specs.WellFormed.{IsWellFormed}
 use Rattle.sample_succ.specs.declared.finding.Found.{Found}
 use Rattle.sample_succ.specs.declared.finding.Node.{Node}
 use Rattle.sample_succ.specs.Covers.{items_of, AreWide, DoesCover, DoesNotCover}
-use Rattle.sample_succ.specs.Plain.{IsPlain, IsLeft}
+use Rattle.sample_succ.specs.Plain.{IsPlain, IsLeft, IsLeftInTime}
 use Rattle.sample_succ.specs.Walks.{plain_before, plain_after, IsNodeAt, IsNode, IsAfter, IsJumped, AreFound, AllBefore, WalkedTo, IsPutNew}
 use Rattle.sample_succ.proofs.ItemLemmas.{none_walked, empty_walked, covered_walked, item_walked}
+use Rattle.sample_succ.proofs.LateLemmas.{point_back_with}
 use Rattle.sample_succ.proofs.NodeLemmas.{point_same, point_back, loc_within, plain_wide, after_wide, leg_plain, jump_plain, sample_plain, leg_fault, jump_fault, sample_fault, no_leg, no_jump, next_node}
 use Rattle.sample_succ.proofs.PathLemmas.{end_more, fits_more, fits_rest, unsafe_more}
 use Rattle.sample_succ.proofs.PlainLemmas.{plain_same, plain_then}
@@ -109,9 +110,9 @@ module _ (key : Key) (wf : IsWellFormed key.automaton) (is : IsKey key) (n : Nod
         jump_is : IsPlain (width key.automaton + 1) (rows_after (jump_stage key.automaton e s.rows)) (rows_after (jump_stage key.automaton e (plain_after key n.parent n.path.items)))
         jump_is = jump_plain key wf is e s.rows (plain_after key n.parent n.path.items) he wide (after_wide key wf is n.parent n.path.items node.at.may_take) after.plain
 
-        pub jump_none : IsLeft (jump_stage key.automaton e s.rows) None → IsJumped key n.parent n.path.items e None
-        jump_none left other q may end = no_jump key wf is n.parent n.path.items e other q
-            (λ point. left (point_back (width key.automaton + 1) (rows_after (jump_stage key.automaton e s.rows)) (rows_after (jump_stage key.automaton e (plain_after key n.parent n.path.items))) jump_is point)) may end
+        pub jump_none : IsLeftInTime key (jump_stage key.automaton e s.rows) None → IsJumped key n.parent n.path.items e None
+        jump_none left other q may end = no_jump key wf is n.parent n.path.items e other q node.at.may_take
+            (λ point. left (point_back_with (width key.automaton + 1) (at_most (width key.automaton + 1) (width key.automaton) key.gap) (rows_after (jump_stage key.automaton e s.rows)) (rows_after (jump_stage key.automaton e (plain_after key n.parent n.path.items))) jump_is point)) may end
 
         target_is : (transition_at key.automaton e).target ≡ loc_after key n.parent (n.path.items ++ e ∷ [])
         target_is = sym (end_more key.automaton (parent_at key n.parent).loc n.path.items (e ∷ []))

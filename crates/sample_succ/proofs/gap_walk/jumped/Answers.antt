@@ -3,7 +3,7 @@ use Rattle.fm_eliminate.specs.declared.RowFault.TheVariants.{Passes}
 use Rattle.poly_specs.specs.Rows.{AllWide}
 use Rattle.run_specs.specs.Automaton.{width, transition_at}
 use Rattle.run_specs.specs.Stages.{jump_stage}
-use Rattle.sample_succ.specs.Plain.{IsLeft}
+use Rattle.sample_succ.specs.Plain.{IsLeftInTime}
 use Rattle.sample_succ.proofs.VisitLemmas.{jump_away, jump_passes, jump_none, jump_some}
 use Rattle.sample_succ.proofs.gap_walk.jumped.Goals as goal
 
@@ -27,7 +27,7 @@ returns-in-None-clause-ok c =
     let key = c.args.key.now in
     let wide : AllWide (width key.automaton + 1) c.args.after.now.rows = subst (λ n. AllWide n c.args.after.now.rows) c.requires.after.wide c.width.ensures.kept.wide in
     jump_none key c.automaton_of.ensures.limits c.automaton_of.ensures.kept c.args.node.now c.requires.node c.args.after.now c.requires.after wide c.args.e c.requires.known c.requires.room
-    (sym c.source_of.ensures ∙ c.if-source_of-node.false) (subst (IsLeft (jump_stage key.automaton c.args.e c.args.after.now.rows)) c.in-None.is c.in_ok-before.ensures.ok)
+    (sym c.source_of.ensures ∙ c.if-source_of-node.false) (subst (IsLeftInTime key (jump_stage key.automaton c.args.e c.args.after.now.rows)) c.in-None.is c.in_ok-before.ensures.ok)
 
 pub returns-in_ok-next-in-Some-clause-ok : goal.returns-in_ok-next-in-Some-clause-ok
 returns-in_ok-next-in-Some-clause-ok c =
@@ -36,4 +36,4 @@ returns-in_ok-next-in-Some-clause-ok c =
     let x = c.in_ok-next-in-Some.ensures in
     jump_some key c.automaton_of.ensures.limits c.automaton_of.ensures.kept c.args.node.now c.requires.node c.args.after.now c.requires.after wide c.args.e c.requires.known c.requires.room
     (sym c.source_of.ensures ∙ c.if-source_of-node.false) c.in-Some.before c.in_ok-next-in-Some.next
-    (subst (IsLeft (jump_stage key.automaton c.args.e c.args.after.now.rows)) c.in-Some.is c.in_ok-before.ensures.ok) x.parent x.path x.loc x.mark x.before
+    (subst (IsLeftInTime key (jump_stage key.automaton c.args.e c.args.after.now.rows)) c.in-Some.is c.in_ok-before.ensures.ok) x.parent x.path x.loc x.mark x.before

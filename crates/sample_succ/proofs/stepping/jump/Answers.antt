@@ -8,7 +8,7 @@ use Rattle.poly_specs.specs.Rows.{AllWide}
 use Rattle.run_specs.specs.Automaton.{Automaton, width}
 use Rattle.run_specs.specs.Stages.{jump_stage, rows_after, stage_numbers}
 use Rattle.run_specs.specs.WellFormed.{IsWellFormed}
-use Rattle.sample_succ.specs.Plain.{IsPlain, IsLeft}
+use Rattle.sample_succ.specs.Plain.{IsPlain, IsLeftInTime}
 use Rattle.sample_succ.proofs.PlainLemmas.{formed_pass}
 use Rattle.sample_succ.proofs.StepLemmas.{jump_left}
 use Rattle.sample_succ.proofs.stepping.jump.Goals as goal
@@ -30,10 +30,13 @@ returns-clause-ok c =
     let known : l < length a.transitions = subst (λ b. l < length b.transitions) (sym same) c.requires.known in
     let wide : AllWide (width a + 1) rows = subst (λ n. AllWide n rows) (c.requires.wide ∙ ap (λ b. width b + 1) (sym same)) c.width.ensures.kept.wide in
     let plain = jump_left a l rows s.rows wf known wide c.in_ok-system.ensures.exact c.in_ok-system.ensures.plain in
-    subst (λ b. IfOk c.if_any.result (λ o. IsLeft (jump_stage b l rows) o)) same (IfOk-weaker c.if_any.result _ _ (λ o h. h (jump_stage a l rows) c.in_ok-system.ensures.wide plain) c.if_any.ensures.ok)
+    subst (λ b. IfOk c.if_in_time.result (λ o. IsLeftInTime c.args.key.now (jump_stage b l rows) o)) same (IfOk-weaker c.if_in_time.result _ _ (λ o h. h (jump_stage a l rows) c.in_ok-system.ensures.wide plain) c.if_in_time.ensures.ok)
 
 pub returns-clause-passes : goal.returns-clause-passes
 returns-clause-passes c e =
     let same = c.automaton_of-a.ensures.value in
     subst (λ b. SomePasses (stage_numbers (jump_stage b c.args.e c.args.before.now.rows))) same
-    (c.if_any.ensures.passes e (jump_stage c.automaton_of-a.result.now c.args.e c.args.before.now.rows) c.in_ok-system.ensures.wide c.in_ok-system.ensures.plain)
+    (c.if_in_time.ensures.passes e (jump_stage c.automaton_of-a.result.now c.args.e c.args.before.now.rows) c.in_ok-system.ensures.wide c.in_ok-system.ensures.plain)
+
+pub if_in_time-requires : goal.if_in_time-requires
+if_in_time-requires c = record { wide = c.in_ok-system.ensures.wide ∙ ap (λ b. width b + 1) c.automaton_of-a.ensures.value }
