@@ -6,6 +6,3 @@ mod words;
 
 pub use lines::{line_for, put_line, put_refusal, refusal_line, reserve_line};
 pub use log_specs::Refusal;
-
-#[cfg(test)]
-mod tests;

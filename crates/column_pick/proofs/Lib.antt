@@ -11,4 +11,3 @@ pub mod EvalLemmas
 pub mod ColumnLemmas
 pub mod SoFarLemmas
 pub mod StartLemmas
-pub mod TestLemmas

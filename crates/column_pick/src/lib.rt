@@ -9,8 +9,6 @@ mod parts;
 mod picking;
 mod picks;
 mod ranges;
-#[cfg(test)]
-mod tests;
 mod wholes;
 
 pub use picking::pick;

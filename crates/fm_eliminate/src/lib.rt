@@ -11,8 +11,6 @@ mod moves;
 mod pivots;
 mod places;
 mod systems;
-#[cfg(test)]
-mod tests;
 
 use lin_row::{Passes, Row};
 use std::alloc::AllocError;

@@ -35,35 +35,3 @@ impl Frac {
         Ok(())
     }
 }
-
-#[cfg(test)]
-mod tests {
-    use super::*;
-    use std::test::Fail;
-
-    #[test]
-    fn writes_fractions(rt: HostRuntime) -> Result<(), Fail> {
-        for (fraction, text) in [
-            (Frac::make(-3, 2), "x=-3/2"),
-            (Frac::make(0, 1), "x=0"),
-            (Frac::make(7, 1), "x=7"),
-            (
-                Frac::make(1, i128::MAX),
-                "x=1/170141183460469231731687303715884105727",
-            ),
-            (
-                Frac::make(i128::MAX, 1),
-                "x=170141183460469231731687303715884105727",
-            ),
-            (
-                Frac::make(-i128::MAX, 1),
-                "x=-170141183460469231731687303715884105727",
-            ),
-        ] {
-            let mut out = b"x=".to_vec(rt.alloc())?;
-            fraction.write(&mut out)?;
-            assert_eq!(rt; out.as_slice(), text.as_bytes());
-        }
-        Ok(())
-    }
-}

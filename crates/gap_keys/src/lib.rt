@@ -10,8 +10,6 @@ mod keys;
 mod outcomes;
 mod state_equality;
 mod states;
-#[cfg(test)]
-mod tests;
 
 pub use keys::Key;
 pub use outcomes::{Item, Next, Outcome};

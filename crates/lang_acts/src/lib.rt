@@ -7,6 +7,3 @@ mod expression;
 pub use acts::{
     ActReader, ActText, act_trees, acts_of_line, advance, fresh_reader, has_few_terms, line_acts,
 };
-
-#[cfg(test)]
-mod tests;

@@ -8,6 +8,3 @@ mod statements;
 
 pub use lines::line_body;
 pub use statements::Line;
-
-#[cfg(test)]
-mod tests;

@@ -9,6 +9,3 @@ mod names;
 pub use bounds::{bounds_of_line, line_bounds};
 pub use boxes::{boxes_of_line, line_boxes};
 pub use names::{line_names, names_of_line};
-
-#[cfg(test)]
-mod tests;

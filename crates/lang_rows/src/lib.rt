@@ -5,6 +5,3 @@ pub mod expressions;
 pub mod rows;
 
 pub use rows::{line_rows, rows_of_line};
-
-#[cfg(test)]
-mod tests;

@@ -6,6 +6,3 @@ mod order;
 mod texts;
 
 pub use texts::{LangFault, read_models};
-
-#[cfg(test)]
-mod tests;

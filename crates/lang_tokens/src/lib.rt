@@ -8,6 +8,3 @@ mod tokens;
 pub use faults::{LineFault, Stop, fits_on, is, passed_alone, unless};
 pub use lines::next_line;
 pub use tokens::{Token, line_tokens, literal_value, name_of};
-
-#[cfg(test)]
-mod tests;

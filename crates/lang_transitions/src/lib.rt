@@ -4,6 +4,3 @@
 mod transitions;
 
 pub use transitions::{line_transition, transition_of_line};
-
-#[cfg(test)]
-mod tests;

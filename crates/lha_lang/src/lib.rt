@@ -7,6 +7,3 @@ pub use lang_trees::{
     ActParts, ActTree, BoundTree, BoundsTree, BoxTree, BoxesTree, Expr, LocTree, RowTree, RowsTree,
     Sign, Term, TransTree, Tree, Which,
 };
-
-#[cfg(test)]
-mod tests;

@@ -15,6 +15,3 @@ pub use automata::Automaton;
 pub use logs::{Log, Sample};
 pub use names::Name;
 pub use places::{Loc, Trans};
-
-#[cfg(test)]
-mod tests;

@@ -9,8 +9,6 @@ mod evaluation;
 mod numbers;
 mod points;
 mod rows;
-#[cfg(test)]
-mod tests;
 
 use smallvec::SmallVec;
 use std::marker::Model;

@@ -12,8 +12,6 @@ mod prepared;
 mod refusals;
 mod relation;
 mod session;
-#[cfg(test)]
-mod tests;
 mod times;
 
 pub use history::History;

@@ -14,8 +14,3 @@ pub use line::Line;
 pub use reader::{LineReader, ReadFault};
 pub use refusal::RowRefusal;
 pub use rows::{LogRow, parse_cells, parse_header, parse_row};
-
-#[cfg(test)]
-mod row_tests;
-#[cfg(test)]
-mod tests;

@@ -8,6 +8,3 @@ mod refusals;
 mod replies;
 
 pub use checked_log::CheckedLog;
-
-#[cfg(test)]
-mod tests;

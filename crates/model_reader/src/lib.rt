@@ -7,8 +7,3 @@ mod texts;
 
 pub use faults::ModelFault;
 pub use texts::read_automata;
-
-#[cfg(test)]
-mod automaton_tests;
-#[cfg(test)]
-mod fault_tests;

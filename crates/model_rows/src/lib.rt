@@ -11,8 +11,6 @@ mod names;
 mod parts;
 mod rows;
 mod slopes;
-#[cfg(test)]
-mod tests;
 
 pub use acts::transition_rows;
 pub use comparisons::constraint_rows;

@@ -11,8 +11,6 @@ mod inclusion;
 mod multiples;
 mod pruning;
 mod sums;
-#[cfg(test)]
-mod tests;
 
 pub use bounds::sup;
 pub use column_pick::pick;

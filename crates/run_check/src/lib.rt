@@ -15,6 +15,3 @@ mod rows;
 
 pub use check::{RunPasses, Verified, check_run};
 pub use run_record::{GapRun, Leg, Move, Run};
-
-#[cfg(test)]
-mod tests;

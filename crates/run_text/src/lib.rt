@@ -10,6 +10,3 @@ mod write;
 
 pub use read::{TextFault, read_run};
 pub use write::write_run;
-
-#[cfg(test)]
-mod tests;

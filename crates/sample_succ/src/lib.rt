@@ -11,8 +11,6 @@ mod sample_rows;
 mod sampling;
 mod start;
 mod stepping;
-#[cfg(test)]
-mod tests;
 
 ghost use Rattle.std.specs.Prelude.{◌≡◌, ◌↔◌, ℕ, List, length, pos, ◌<ℤ◌};
 ghost use Rattle.poly_specs.specs.Rows.{Point, AllHold};

@@ -180,6 +180,3 @@ impl<R: Relation> MemoState<R> {
         self.totals
     }
 }
-
-#[cfg(test)]
-mod tests;

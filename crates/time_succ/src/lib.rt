@@ -2,8 +2,6 @@
 #![tactic(auto)]
 
 mod leg_rows;
-#[cfg(test)]
-mod tests;
 
 ghost use Rattle.std.specs.Prelude.{◌≡◌, ◌↔◌, ◌+◌, ◌*◌, ◌<◌, ◌++◌, [], ◌∷◌, List, ℤ, pos, ◌-ℤ◌, ◌<ℤ◌, Err, IfOk, length};
 ghost use Rattle.poly_specs.specs.Bits.{SomePasses};
