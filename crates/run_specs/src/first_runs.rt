@@ -1,8 +1,8 @@
 //! A log with a run that meets an aim has a first such run, and has at most one.
 
 ghost use Rattle.std.specs.Prelude.{◌≡◌, ◌↔◌, ℕ, ◌<◌, IsSomeAnd, List, length, slice_get};
-ghost use Rattle.poly_specs.specs.Fractions.{Fraction, IsFraction, SameFraction};
-ghost use Rattle.poly_specs.specs.Rows.{SamePoint, AllWide};
+ghost use Rattle.poly_specs.specs.Fractions.{Fraction, SameFraction};
+ghost use Rattle.poly_specs.specs.Rows.{SamePoint};
 ghost use Rattle.poly_specs.specs.Sets.{IsInterval};
 ghost use Rattle.run_specs.specs.Automaton.{Automaton, width};
 ghost use Rattle.run_specs.specs.WellFormed.{IsWellFormed};
@@ -18,7 +18,7 @@ pub fn alarm_is_a_visit()
 
 /// A run meets the aim of a value exactly where its last value of the variable is that fraction.
 pub fn aim_of_a_value()
-    ensures { (a : Automaton) (k : ℕ) (log : List Sample) (run : Run) (j : ℕ) (v : Fraction) → IsRun a k log run → j < width a → IsFraction v →
+    ensures { (a : Automaton) (k : ℕ) (log : List Sample) (run : Run) (j : ℕ) (v : Fraction) → IsRun a k log run → j < width a →
         Meets a (to_value (width a) j v) run ↔ IsSomeAnd (slice_get (last_values run.gaps) j) (λ x. SameFraction x v) }
 {}
 
@@ -37,6 +37,6 @@ pub fn one_first_run()
 
 /// Where some run of a log meets an aim, there is a first one.
 pub fn some_first_run()
-    ensures { (a : Automaton) (k : ℕ) (log : List Sample) (aim : Aim) (other : Run) → IsWellFormed a → IsLog (width a) log → AllWide (width a) aim.rows →
+    ensures { (a : Automaton) (k : ℕ) (log : List Sample) (aim : Aim) (other : Run) → IsWellFormed a → IsLog (width a) log →
         IsAimedRun a k log aim other → (run : Run) × IsFirstRun a k log aim run }
 {}

@@ -1,7 +1,7 @@
 //! The states of a session are where runs of its log end, each with a history of its own.
 
 ghost use Rattle.std.specs.Prelude.{◌≡◌, ◌↔◌, ℕ, ◌<◌, ◌≤◌, length, take, pos, ◌<ℤ◌, false, IsTrue};
-ghost use Rattle.poly_specs.specs.Rows.{Point, AllHold, AllWide};
+ghost use Rattle.poly_specs.specs.Rows.{Point, AllHold};
 ghost use Rattle.run_specs.specs.Automaton.{width};
 ghost use Rattle.run_specs.specs.Runs.{Run, IsRun};
 ghost use Rattle.run_specs.specs.Aims.{Aim, to_alarm};
@@ -48,6 +48,5 @@ pub fn marked_states_meet_alarms()
 /// The first run that meets an aim, of a log that ends with a gap, is along the history of the first state that can meet it.
 pub fn first_run_is_of_a_state()
     ensures { (s : MonitorSession) (i : ℕ) (aim : Aim) (run : Run) → IsMonitorSession s → 0 < i → i ≤ length s.history.gaps → has_passed (take i s.history.gaps) ≡ false →
-        AllWide (width s.history.automaton) aim.rows →
         IsFirstRun s.history.automaton s.history.jumps (take i s.log) aim run → (j : ℕ) × IsOfFirstState s.history aim i run j }
 {}
