@@ -1,5 +1,5 @@
 -- Runs that meet an aim.
-use Rattle.std.proofs.Common.{◌≡◌, ◌↔◌, ℕ, zero, suc, ◌<◌, List, [], ◌∷◌, ◌++◌, length, map, take, get_or, Some, None, refl, sym, ◌∙◌, ap, subst, arith, ℤ, pos, ◌<ℤ◌}
+use Rattle.std.proofs.Common.{◌≡◌, ◌↔◌, ℕ, zero, suc, ◌<◌, List, [], ◌∷◌, length, take, Some, refl, sym, ◌∙◌, ap, subst, arith, ℤ, pos, ◌<ℤ◌}
 use Rattle.std.specs.Prelude.{IsSomeAnd, slice_get}
 use Rattle.std.specs.List.{AllZip}
 use Rattle.std.proofs.lemmas.Int.{ints}
@@ -12,8 +12,8 @@ use Rattle.run_specs.proofs.RunEndLemmas.{all_same}
 use Rattle.run_specs.proofs.PickedLemmas.{length-fractions}
 use Rattle.run_specs.proofs.PickedValues.{zip_long, zip_at, zip_take}
 use Rattle.run_specs.proofs.FirstRunLemmas.{scaled_same}
-use Rattle.poly_specs.specs.Fractions.{Fraction, IsFraction, SameFraction, AtMost, fractions, zero_fraction}
-use Rattle.poly_specs.specs.Rows.{Point, Row, over, coordinate, SamePoint, Holds, AllHold}
+use Rattle.poly_specs.specs.Fractions.{Fraction, SameFraction, fractions, zero_fraction}
+use Rattle.poly_specs.specs.Rows.{Point, Row, over, coordinate, SamePoint, AllHold}
 use Rattle.run_specs.specs.Automaton.{Automaton, width}
 use Rattle.run_specs.specs.Logs.{Sample}
 use Rattle.run_specs.specs.Runs.{GapRun, Place, Run, Follows, IsRun, VisitsUnsafe, end_of, end_point}
