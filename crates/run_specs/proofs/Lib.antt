@@ -3,6 +3,7 @@ pub mod RunLemmas
 pub mod PassesLemmas
 pub mod ListLemmas
 pub mod SessionLemmas
+pub mod HistoryLogLemmas
 pub mod WorldLemmas
 pub mod RunEndLemmas
 pub mod StateHistoryLemmas

@@ -14,6 +14,7 @@ pub mod Keys
 pub mod Outcomes
 pub mod Openings
 pub mod SessionHistories
+pub mod HistoryLogs
 pub mod StateHistories
 pub mod Sessions
 pub mod Worlds

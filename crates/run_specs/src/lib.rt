@@ -17,6 +17,7 @@ ghost use Rattle.run_specs.specs.Verdicts.{IsLawful, AreLawful, NoOverflow};
 
 pub mod first_runs;
 pub mod histories;
+pub mod history_logs;
 pub mod sessions;
 pub mod states;
 pub mod worlds;
