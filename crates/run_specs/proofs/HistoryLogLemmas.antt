@@ -13,7 +13,7 @@ use Rattle.run_specs.specs.Logs.{Sample, IsSample, IsLog, RiseFrom, TimesRise}
 use Rattle.run_specs.specs.Keys.{State}
 use Rattle.run_specs.specs.Outcomes.{Outcome, Next, Passed}
 use Rattle.run_specs.specs.SessionHistories.{Entry, IsEntry, SessionHistory, IsHistory, AreLinked, LaterGapsLast, states, opening_states}
-use Rattle.run_specs.specs.Sessions.{AreEntriesOf}
+use Rattle.run_specs.specs.Sessions.{MonitorSession, IsMonitorSession, AreEntriesOf}
 use Rattle.run_specs.specs.HistoryLogs.{time_after, samples_after, log_of}
 
 -- ---- sums and differences of times
@@ -147,6 +147,9 @@ pub record HasLog (h : SessionHistory) (log : List Sample) : Type 0 where
   pub history : IsHistory h
   pub is_log : IsLog (width h.automaton) log
   pub entries : AreEntriesOf zero_fraction log h.gaps
+
+pub session_has_log : (s : MonitorSession) → IsMonitorSession s → HasLog s.history s.log
+session_has_log s is = record { history = is.history; is_log = is.log; entries = is.entries }
 
 pub history_has_log : (h : SessionHistory) → IsHistory h → HasLog h (log_of h)
 history_has_log h is =

@@ -23,6 +23,7 @@ pub mod StageWidths
 pub mod GapEnds
 pub mod GapPasses
 pub mod OverflowLemmas
+pub mod PlainStates
 pub mod ReplyLemmas
 pub mod SystemLemmas
 pub mod HistorySystems

@@ -16,5 +16,6 @@ pub mod Openings
 pub mod SessionHistories
 pub mod HistoryLogs
 pub mod StateHistories
+pub mod PlainHistories
 pub mod Sessions
 pub mod Worlds

@@ -18,6 +18,7 @@ ghost use Rattle.run_specs.specs.Verdicts.{IsLawful, AreLawful, NoOverflow};
 pub mod first_runs;
 pub mod histories;
 pub mod history_logs;
+pub mod history_states;
 pub mod sessions;
 pub mod states;
 pub mod worlds;

@@ -3,7 +3,8 @@ use Rattle.std.proofs.Common.{◌≡◌, ◌↔◌, ℕ, ◌+◌, ◌<◌, inl, 
 use Rattle.std.specs.Prelude.{IfSome, slice_index_or, All}
 use Rattle.std.proofs.lemmas.Bool.{cases_lt}
 use Rattle.std.proofs.lemmas.List.{get_or_past}
-use Rattle.run_specs.proofs.GapEnds.{IsGapCase, AllReached, gap_there}
+use Rattle.run_specs.specs.PlainHistories.{AllReached}
+use Rattle.run_specs.proofs.GapEnds.{IsGapCase, gap_there}
 use Rattle.run_specs.proofs.RunEndLemmas.{all_same}
 use Rattle.run_specs.proofs.StageWidths.{end_within}
 use Rattle.poly_specs.specs.Fractions.{Fraction, IsFraction, zero_fraction, AtMost}

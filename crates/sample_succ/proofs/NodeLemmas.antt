@@ -8,7 +8,7 @@ use Rattle.poly_specs.specs.Lists.{IsAmong}
 use Rattle.poly_specs.specs.Rows.{Point, Row, over, AllHold, AllWide, HasPoint}
 use Rattle.poly_specs.specs.Systems.{System}
 use Rattle.run_specs.proofs.EndLemmas.{leg_ends, jump_ends}
-use Rattle.run_specs.proofs.GapEnds.{AllReached}
+use Rattle.run_specs.specs.PlainHistories.{AllReached}
 use Rattle.sample_succ.proofs.StageFacts.{passes_more, numbers_more, leg_within, jump_within}
 use Rattle.run_specs.proofs.PassesLemmas.{after_more, leg_more, leg_rows_more, jump_more, jump_rows_more, sample_rows_more}
 use Rattle.run_specs.proofs.SampleEnds.{sample_ends}
