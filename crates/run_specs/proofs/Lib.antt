@@ -24,6 +24,8 @@ pub mod StageWidths
 pub mod GapEnds
 pub mod GapPasses
 pub mod OverflowLemmas
+pub mod GapBack
+pub mod GapExact
 pub mod PlainStates
 pub mod ReplyLemmas
 pub mod SystemLemmas

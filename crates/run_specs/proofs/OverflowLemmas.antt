@@ -127,7 +127,7 @@ pub record IsGapOf (t : Fraction) (s : Sample) (key : Key) : Type 0 where
   pub duration : IsFraction (difference s.time t)
   pub seen : key.seen ≡ s.cells
 
-key_case : (key : Key) (l : ℕ) (rows : List Row) → IsWellFormed key.automaton → IsKey key → l < length key.automaton.locations → AllWide (width key.automaton) rows →
+pub key_case : (key : Key) (l : ℕ) (rows : List Row) → IsWellFormed key.automaton → IsKey key → l < length key.automaton.locations → AllWide (width key.automaton) rows →
     IsGapCase key.automaton l key.seen rows
 key_case key l rows wf is hl wide = record {
   loc = hl;
