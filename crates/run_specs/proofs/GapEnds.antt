@@ -16,19 +16,16 @@ use Rattle.run_specs.specs.WellFormed.{IsWellFormed}
 use Rattle.run_specs.specs.Logs.{IsPassing, cell_at}
 use Rattle.run_specs.specs.Runs.{Leg, Move, GapRun, IsLeg, IsJump, LeadOn, IsGapRun, path_of, total, start_point, end_point}
 use Rattle.run_specs.specs.Passes.{Fits}
+use Rattle.run_specs.specs.PlainHistories.{AllReached}
 use Rattle.run_specs.specs.Stages.{Stage, SomeReachedPasses, rows_after, row_of, gap_start, leg_stage, jump_stage, sample_stage, path_rows, path_stages, gap_rows, gap_stages}
 
 -- ---- stages that have points
-
-abbrev pub AllReached : List Stage → Type 0
-AllReached [] = Unit {0}
-AllReached (s ∷ ss) = HasPoint s.left (rows_after s) × AllReached ss
 
 pub reached_then : (xs ys : List Stage) → AllReached xs → SomeReachedPasses ys → SomeReachedPasses (xs ++ ys)
 reached_then [] ys h p = p
 reached_then (x ∷ xs) ys h p = inr (h.0, reached_then xs ys h.1 p)
 
-reached_both : (xs ys : List Stage) → AllReached xs → AllReached ys → AllReached (xs ++ ys)
+pub reached_both : (xs ys : List Stage) → AllReached xs → AllReached ys → AllReached (xs ++ ys)
 reached_both [] ys h g = g
 reached_both (x ∷ xs) ys h g = (h.0, reached_both xs ys h.1 g)
 

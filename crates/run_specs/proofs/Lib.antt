@@ -3,6 +3,7 @@ pub mod RunLemmas
 pub mod PassesLemmas
 pub mod ListLemmas
 pub mod SessionLemmas
+pub mod HistoryLogLemmas
 pub mod WorldLemmas
 pub mod RunEndLemmas
 pub mod StateHistoryLemmas
@@ -23,6 +24,9 @@ pub mod StageWidths
 pub mod GapEnds
 pub mod GapPasses
 pub mod OverflowLemmas
+pub mod GapBack
+pub mod GapExact
+pub mod PlainStates
 pub mod ReplyLemmas
 pub mod SystemLemmas
 pub mod HistorySystems

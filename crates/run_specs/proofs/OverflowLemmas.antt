@@ -11,7 +11,8 @@ use Rattle.run_specs.proofs.RunEndLemmas.{all_same}
 use Rattle.run_specs.proofs.StateHistoryLemmas.{in_at}
 use Rattle.run_specs.proofs.ScaledRows.{at_most-lowest, at_least-lowest}
 use Rattle.run_specs.proofs.StageWidths.{location_is, end_within, gap_wide}
-use Rattle.run_specs.proofs.GapEnds.{AllReached, IsGapCase, reached_then, gap_there}
+use Rattle.run_specs.specs.PlainHistories.{AllReached}
+use Rattle.run_specs.proofs.GapEnds.{IsGapCase, reached_then, gap_there}
 use Rattle.run_specs.proofs.GapPasses.{IsWithin, IsReduced, gap_passes}
 use Rattle.poly_specs.specs.Lists.{In, IsAmong}
 use Rattle.poly_specs.specs.Fractions.{Fraction, IsFraction, difference, zero_fraction}
@@ -74,13 +75,13 @@ cut_same n (r ∷ rows) wide =
     let same : take n r.coef ≡ r.coef = take_all n r.coef (omega (arith, All-head (λ (s : Row). length s.coef ≡ n) r rows wide)) in
     ap₂ (λ (cs : List ℤ) (ss : List Row). record r { coef = cs } ∷ ss) same (cut_same n rows (All-tail (λ (s : Row). length s.coef ≡ n) r rows wide))
 
-opening_rows_are : (a : Automaton) (l : ℕ) (init : List Row) → AllWide (width a) (init ++ (location_at a l).invariant) →
+pub opening_rows_are : (a : Automaton) (l : ℕ) (init : List Row) → AllWide (width a) (init ++ (location_at a l).invariant) →
     rows_after (opening_stage a l init) ≡ init ++ (location_at a l).invariant
 unfolding rows_after
 opening_rows_are a l init wide = cut_same (width a) (init ++ (location_at a l).invariant) wide
 
 -- a location where runs start is one of the automaton
-starts_within : (a : Automaton) (l : ℕ) (init : List Row) → (location_at a l).init ≡ Some init → l < length a.locations
+pub starts_within : (a : Automaton) (l : ℕ) (init : List Row) → (location_at a l).init ≡ Some init → l < length a.locations
 starts_within a l init e = elim (cases_lt l (length a.locations)) [
   | inl lt ↦ lt
   | inr ge ↦ absurd (let none = get_or_past a.locations l nowhere ge in let n : (location_at a l).init ≡ None = ap (λ x. x.init) none in let f : ⊥ = cc in f)
@@ -126,7 +127,7 @@ pub record IsGapOf (t : Fraction) (s : Sample) (key : Key) : Type 0 where
   pub duration : IsFraction (difference s.time t)
   pub seen : key.seen ≡ s.cells
 
-key_case : (key : Key) (l : ℕ) (rows : List Row) → IsWellFormed key.automaton → IsKey key → l < length key.automaton.locations → AllWide (width key.automaton) rows →
+pub key_case : (key : Key) (l : ℕ) (rows : List Row) → IsWellFormed key.automaton → IsKey key → l < length key.automaton.locations → AllWide (width key.automaton) rows →
     IsGapCase key.automaton l key.seen rows
 key_case key l rows wf is hl wide = record {
   loc = hl;
@@ -142,18 +143,18 @@ key_case key l rows wf is hl wide = record {
   sized = is.sized;
 }
 
-key_rows : (t : Fraction) (s : Sample) (key : Key) (l : ℕ) (path : List ℕ) (rows : List Row) → IsGapOf t s key →
+pub key_rows : (t : Fraction) (s : Sample) (key : Key) (l : ℕ) (path : List ℕ) (rows : List Row) → IsGapOf t s key →
     gap_rows key.automaton l path key.gap key.seen rows ≡ gap_rows key.automaton l path (difference s.time t) s.cells rows
 key_rows t s key l path rows is =
     ap₂ (λ v cells. gap_rows key.automaton l path v cells rows) is.gap is.seen ∙ lowest_rows key.automaton l path (difference s.time t) s.cells rows is.duration
 
-key_stages : (t : Fraction) (s : Sample) (key : Key) (l : ℕ) (path : List ℕ) (rows : List Row) → IsGapOf t s key →
+pub key_stages : (t : Fraction) (s : Sample) (key : Key) (l : ℕ) (path : List ℕ) (rows : List Row) → IsGapOf t s key →
     gap_stages key.automaton l path key.gap key.seen rows ≡ gap_stages key.automaton l path (difference s.time t) s.cells rows
 key_stages t s key l path rows is =
     ap₂ (λ v cells. gap_stages key.automaton l path v cells rows) is.gap is.seen ∙ lowest_stages key.automaton l path (difference s.time t) s.cells rows is.duration
 
 -- an end along a path from a state, from plain rows of a history of the state
-end_there : (key : Key) (i : ℕ) (path : List ℕ) (rows : List Row) (q : Point) → IsWellFormed key.automaton → IsKey key → (parent_at key i).loc < length key.automaton.locations →
+pub end_there : (key : Key) (i : ℕ) (path : List ℕ) (rows : List Row) (q : Point) → IsWellFormed key.automaton → IsKey key → (parent_at key i).loc < length key.automaton.locations →
     Fits key.automaton (parent_at key i).loc path → AllWide (width key.automaton) rows → IsWithin (width key.automaton) (parent_at key i).rows rows → IsEnd key i path q →
     AllReached (gap_stages key.automaton (parent_at key i).loc path key.gap key.seen rows) × AllHold (gap_rows key.automaton (parent_at key i).loc path key.gap key.seen rows) q
 end_there key i path rows q wf is hl fits wide within end =

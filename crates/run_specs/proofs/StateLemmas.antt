@@ -1,4 +1,4 @@
--- The states of a session: where runs of its log end, in the order of their histories.
+-- The states of a history: where runs of a log with its entries end, in the order of their histories.
 use Rattle.std.proofs.Common.{◌≡◌, ◌⊎◌, ◌↔◌, inl, inr, ℕ, zero, suc, ◌<◌, ◌≤◌, Bool, true, false, List, [], ◌∷◌, ◌++◌, append_assoc, append-nil, length, take, Option, Some, None, refl, sym, ◌∙◌, ap, subst, arith, pos, ◌<ℤ◌}
 use Rattle.std.specs.Prelude.{All, IsTrue, slice_index_or}
 use Rattle.std.proofs.lemmas.List.{length-take-le}
@@ -8,6 +8,7 @@ use Rattle.poly_specs.proofs.EliminationLemmas.{AllHold-from_in}
 use Rattle.run_specs.proofs.StageLemmas.{holds_both}
 use Rattle.run_specs.proofs.SessionLemmas.{last_from, entries_few}
 use Rattle.run_specs.proofs.RunEndLemmas.{all_same, marked, IsAt, run_inside, IsKeyOf, last_from-append, key_of}
+use Rattle.run_specs.proofs.HistoryLogLemmas.{HasLog}
 use Rattle.run_specs.proofs.AimLemmas.{some_gap, last_of}
 use Rattle.run_specs.proofs.StateHistoryLemmas.{rise_at, Stands, AreFollowed, opening_are, items_are}
 use Rattle.poly_specs.specs.Fractions.{Fraction, IsFraction, zero_fraction}
@@ -22,7 +23,7 @@ use Rattle.run_specs.specs.Keys.{State, Key, no_state}
 use Rattle.run_specs.specs.Outcomes.{Item, Outcome, Next, Passed, AreExact, IsExact}
 use Rattle.run_specs.specs.Openings.{IsOpening}
 use Rattle.run_specs.specs.SessionHistories.{Entry, SessionHistory, AreLinked, states, states_left, opening_states, belief_after, has_passed}
-use Rattle.run_specs.specs.Sessions.{MonitorSession, IsMonitorSession, AreEntriesOf}
+use Rattle.run_specs.specs.Sessions.{AreEntriesOf}
 use Rattle.run_specs.specs.StateHistories.{no_history, opening_histories, item_histories, histories_left, histories_after, states_at, histories_at, state_at, history_at, HistoriesRise, run_end, EndsRun, HasMarksOf, EndsInState, CanMeet, IsOfFirstState, IsNoLater}
 
 -- ---- entries
@@ -75,7 +76,7 @@ entries_are a k m before belief hs (s ∷ ss) (x ∷ es) t (suc i) f linked entr
         (append_assoc before (s ∷ []) (take i ss))
         (later (states items) (item_histories hs items) (entry_are a k before s belief hs x.key items linked.1 linked.2 linked.3 key exact f) l)
 
--- ---- sessions
+-- ---- histories
 
 -- no state is left after i gaps: the opening or an entry passed
 record NoneLeft (h : SessionHistory) (i : ℕ) : Type 0 where
@@ -90,22 +91,22 @@ not_opened h i e f l = record {
   passed = λ p. absurd (omega (arith, ap length f));
 }
 
-reached : (s : MonitorSession) (i : ℕ) → IsMonitorSession s → i ≤ length s.history.gaps →
-    AreFollowed s.history.automaton s.history.jumps (take i s.log) (states_at s.history i) (histories_at s.history i) ⊎ NoneLeft s.history i
-reached s i is h = go s.history.opening refl is.history.opening
+reached : (hist : SessionHistory) (log : List Sample) (i : ℕ) → HasLog hist log → i ≤ length hist.gaps →
+    AreFollowed hist.automaton hist.jumps (take i log) (states_at hist i) (histories_at hist i) ⊎ NoneLeft hist i
+reached hist log i is h = go hist.opening refl is.history.opening
   where
-    go : (o : Option (List State)) → s.history.opening ≡ o → IsOpening s.history.automaton o →
-        AreFollowed s.history.automaton s.history.jumps (take i s.log) (states_at s.history i) (histories_at s.history i) ⊎ NoneLeft s.history i
+    go : (o : Option (List State)) → hist.opening ≡ o → IsOpening hist.automaton o →
+        AreFollowed hist.automaton hist.jumps (take i log) (states_at hist i) (histories_at hist i) ⊎ NoneLeft hist i
     go None f opening =
-        inr (not_opened s.history i (ap (λ o. elim o as (λ _. List State) [ None ↦ [] | Some b ↦ b ]) f) (is.history.not_opened f) h)
+        inr (not_opened hist i (ap (λ o. elim o as (λ _. List State) [ None ↦ [] | Some b ↦ b ]) f) (is.history.not_opened f) h)
     go (Some belief) f opening =
-        let a : Automaton = s.history.automaton in
-        let k : ℕ = s.history.jumps in
-        let states_are : opening_states s.history ≡ belief = ap (λ o. elim o as (λ _. List State) [ None ↦ [] | Some b ↦ b ]) f in
-        let start : AreFollowed a k [] (opening_states s.history) (opening_histories (opening_states s.history)) =
+        let a : Automaton = hist.automaton in
+        let k : ℕ = hist.jumps in
+        let states_are : opening_states hist ≡ belief = ap (λ o. elim o as (λ _. List State) [ None ↦ [] | Some b ↦ b ]) f in
+        let start : AreFollowed a k [] (opening_states hist) (opening_histories (opening_states hist)) =
         subst (λ b. AreFollowed a k [] b (opening_histories b)) (sym states_are) (opening_are a k belief opening) in
-        elim (entries_are a k (width a) [] (opening_states s.history) (opening_histories (opening_states s.history)) s.log s.history.gaps zero_fraction i
-        start is.history.linked is.entries refl (record { lt = tt }) is.log.each h) [
+        elim (entries_are a k (width a) [] (opening_states hist) (opening_histories (opening_states hist)) log hist.gaps zero_fraction i
+        start is.history.linked is.entries refl (record { lt = tt }) is.is_log.each h) [
           | inl f ↦ inl f
           | inr g ↦ inr (record { no_states = g.no_states; no_histories = g.no_histories; passed = λ p. g.passed_is })
         ]
@@ -208,61 +209,61 @@ first_state a k log belief hs aim f some run is =
 no_number : (h : SessionHistory) (i j : ℕ) → NoneLeft h i → j < length (states_at h i) → ⊥
 no_number h i j n l = omega (arith, l, ap length n.no_states)
 
-some_sample : (s : MonitorSession) (i : ℕ) → IsMonitorSession s → 0 < i → i ≤ length s.history.gaps → 0 < length (take i s.log)
-some_sample s i is p h =
-    let few = entries_few zero_fraction s.log s.history.gaps is.entries in
-    let e = length-take-le i s.log (omega (arith, few, h)) in omega (arith, e, p)
+some_sample : (hist : SessionHistory) (log : List Sample) (i : ℕ) → HasLog hist log → 0 < i → i ≤ length hist.gaps → 0 < length (take i log)
+some_sample hist log i is p h =
+    let few = entries_few zero_fraction log hist.gaps is.entries in
+    let e = length-take-le i log (omega (arith, few, h)) in omega (arith, e, p)
 
-pub states_ends : (s : MonitorSession) (i j : ℕ) (q : Point) → IsMonitorSession s → 0 < i → i ≤ length s.history.gaps → j < length (states_at s.history i) →
-    pos 0 <ℤ q.den → length q.num ≡ width s.history.automaton →
-    AllHold (state_at s.history i j).rows q ↔ ((run : Run) × EndsRun s.history.automaton s.history.jumps (take i s.log) (history_at s.history i j) q run)
-states_ends s i j q is p h hj hq sized = elim (reached s i is h) [
+pub states_ends : (hist : SessionHistory) (log : List Sample) (i j : ℕ) (q : Point) → HasLog hist log → 0 < i → i ≤ length hist.gaps → j < length (states_at hist i) →
+    pos 0 <ℤ q.den → length q.num ≡ width hist.automaton →
+    AllHold (state_at hist i j).rows q ↔ ((run : Run) × EndsRun hist.automaton hist.jumps (take i log) (history_at hist i j) q run)
+states_ends hist log i j q is p h hj hq sized = elim (reached hist log i is h) [
   | inl f ↦ (
-      let a : Automaton = s.history.automaton in
+      let a : Automaton = hist.automaton in
       let x = f.each j hj in
       let at : IsAt a q = record { positive = hq; sized = sized } in (
         λ holds. x.ends q at holds,
         λ ends.
             let (run, e) = ends in
-            let inside = run_inside a s.history.jumps (take i s.log) run (some_sample s i is p h) e.run_of in
-            let loc : (run_end a run).loc ≡ (state_at s.history i j).loc = x.loc run e.run_of e.along in
+            let inside = run_inside a hist.jumps (take i log) run (some_sample hist log i is p h) e.run_of in
+            let loc : (run_end a run).loc ≡ (state_at hist i j).loc = x.loc run e.run_of e.along in
             x.held q run at (subst (λ l. AllHold (location_at a l).invariant q) loc
             (all_same (location_at a (run_end a run).loc).invariant (run_end a run).point q inside.at.positive hq e.ends inside.inside)) e,
       ))
-  | inr n ↦ absurd (no_number s.history i j n hj)
+  | inr n ↦ absurd (no_number hist i j n hj)
 ]
 
-pub states_marks : (s : MonitorSession) (i j : ℕ) (q : Point) (run : Run) → IsMonitorSession s → i ≤ length s.history.gaps → j < length (states_at s.history i) →
-    EndsRun s.history.automaton s.history.jumps (take i s.log) (history_at s.history i j) q run → HasMarksOf s.history.automaton (state_at s.history i j) run
-states_marks s i j q run is h hj e = elim (reached s i is h) [
+pub states_marks : (hist : SessionHistory) (log : List Sample) (i j : ℕ) (q : Point) (run : Run) → HasLog hist log → i ≤ length hist.gaps → j < length (states_at hist i) →
+    EndsRun hist.automaton hist.jumps (take i log) (history_at hist i j) q run → HasMarksOf hist.automaton (state_at hist i j) run
+states_marks hist log i j q run is h hj e = elim (reached hist log i is h) [
   | inl f ↦ (
       let x = f.each j hj in
-      record { loc = x.loc run e.run_of e.along; mark = mark_visits s.history.automaton run (state_at s.history i j).seen_unsafe (x.mark run e.run_of e.along) })
-  | inr n ↦ absurd (no_number s.history i j n hj)
+      record { loc = x.loc run e.run_of e.along; mark = mark_visits hist.automaton run (state_at hist i j).seen_unsafe (x.mark run e.run_of e.along) })
+  | inr n ↦ absurd (no_number hist i j n hj)
 ]
 
-pub states_rising : (s : MonitorSession) (i : ℕ) → IsMonitorSession s → i ≤ length s.history.gaps → HistoriesRise (histories_at s.history i)
-states_rising s i is h = elim (reached s i is h) [
+pub states_rising : (hist : SessionHistory) (log : List Sample) (i : ℕ) → HasLog hist log → i ≤ length hist.gaps → HistoriesRise (histories_at hist i)
+states_rising hist log i is h = elim (reached hist log i is h) [
   | inl f ↦ f.rise
   | inr n ↦ subst HistoriesRise (sym n.no_histories) tt
 ]
 
-pub states_many : (s : MonitorSession) (i : ℕ) → IsMonitorSession s → i ≤ length s.history.gaps → length (histories_at s.history i) ≡ length (states_at s.history i)
-states_many s i is h = elim (reached s i is h) [
+pub states_many : (hist : SessionHistory) (log : List Sample) (i : ℕ) → HasLog hist log → i ≤ length hist.gaps → length (histories_at hist i) ≡ length (states_at hist i)
+states_many hist log i is h = elim (reached hist log i is h) [
   | inl f ↦ f.as_many
   | inr n ↦ ap length n.no_histories ∙ sym (ap length n.no_states)
 ]
 
-pub run_state : (s : MonitorSession) (i : ℕ) (run : Run) → IsMonitorSession s → 0 < i → i ≤ length s.history.gaps → has_passed (take i s.history.gaps) ≡ false →
-    IsRun s.history.automaton s.history.jumps (take i s.log) run → (j : ℕ) × EndsInState s.history i run j
-run_state s i run is p h n r = elim (reached s i is h) [
+pub run_state : (hist : SessionHistory) (log : List Sample) (i : ℕ) (run : Run) → HasLog hist log → 0 < i → i ≤ length hist.gaps → has_passed (take i hist.gaps) ≡ false →
+    IsRun hist.automaton hist.jumps (take i log) run → (j : ℕ) × EndsInState hist i run j
+run_state hist log i run is p h n r = elim (reached hist log i is h) [
   | inl f ↦ (
-      let a : Automaton = s.history.automaton in
-      let (j, x) = state_of_run a s.history.jumps (take i s.log) (states_at s.history i) (histories_at s.history i) f (some_sample s i is p h) run r in (
+      let a : Automaton = hist.automaton in
+      let (j, x) = state_of_run a hist.jumps (take i log) (states_at hist i) (histories_at hist i) f (some_sample hist log i is p h) run r in (
         j,
         record {
           below = x.below;
-          marks = record { loc = x.loc; mark = mark_visits a run (state_at s.history i j).seen_unsafe x.mark };
+          marks = record { loc = x.loc; mark = mark_visits a run (state_at hist i j).seen_unsafe x.mark };
           holds = x.holds;
           no_later = x.no_later;
         },
@@ -270,25 +271,25 @@ run_state s i run is p h n r = elim (reached s i is h) [
   | inr g ↦ absurd (let t = g.passed p in let b : ⊥ = cc in b)
 ]
 
-pub marked_meet : (s : MonitorSession) (i j : ℕ) → IsMonitorSession s → i ≤ length s.history.gaps → j < length (states_at s.history i) →
-    CanMeet (width s.history.automaton) to_alarm (state_at s.history i j) ↔ IsTrue (state_at s.history i j).seen_unsafe
-marked_meet s i j is h hj = elim (reached s i is h) [
+pub marked_meet : (hist : SessionHistory) (log : List Sample) (i j : ℕ) → HasLog hist log → i ≤ length hist.gaps → j < length (states_at hist i) →
+    CanMeet (width hist.automaton) to_alarm (state_at hist i j) ↔ IsTrue (state_at hist i j).seen_unsafe
+marked_meet hist log i j is h hj = elim (reached hist log i is h) [
   | inl f ↦ (
       let (q, at, holds) = (f.each j hj).some_point in (
         λ can. can.marked refl,
         λ t. record {
           marked = λ _. t;
-          some_point = (q, at.positive, at.sized, (holds_both (state_at s.history i j).rows [] q).1 (holds, AllHold-from_in [] q (λ r i. absurd i)));
+          some_point = (q, at.positive, at.sized, (holds_both (state_at hist i j).rows [] q).1 (holds, AllHold-from_in [] q (λ r i. absurd i)));
         },
       ))
-  | inr n ↦ absurd (no_number s.history i j n hj)
+  | inr n ↦ absurd (no_number hist i j n hj)
 ]
 
-pub first_run_state : (s : MonitorSession) (i : ℕ) (aim : Aim) (run : Run) → IsMonitorSession s → 0 < i → i ≤ length s.history.gaps → has_passed (take i s.history.gaps) ≡ false →
-    IsFirstRun s.history.automaton s.history.jumps (take i s.log) aim run → (j : ℕ) × IsOfFirstState s.history aim i run j
-first_run_state s i aim run is p h n r = elim (reached s i is h) [
+pub first_run_state : (hist : SessionHistory) (log : List Sample) (i : ℕ) (aim : Aim) (run : Run) → HasLog hist log → 0 < i → i ≤ length hist.gaps → has_passed (take i hist.gaps) ≡ false →
+    IsFirstRun hist.automaton hist.jumps (take i log) aim run → (j : ℕ) × IsOfFirstState hist aim i run j
+first_run_state hist log i aim run is p h n r = elim (reached hist log i is h) [
   | inl f ↦ (
-      let (j, x) = first_state s.history.automaton s.history.jumps (take i s.log) (states_at s.history i) (histories_at s.history i) aim f (some_sample s i is p h) run r in
+      let (j, x) = first_state hist.automaton hist.jumps (take i log) (states_at hist i) (histories_at hist i) aim f (some_sample hist log i is p h) run r in
       (j, record { below = x.below; meets = x.meets; along = x.along; first = x.first }))
   | inr g ↦ absurd (let t = g.passed p in let b : ⊥ = cc in b)
 ]

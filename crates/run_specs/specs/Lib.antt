@@ -15,6 +15,8 @@ pub mod Keys
 pub mod Outcomes
 pub mod Openings
 pub mod SessionHistories
+pub mod HistoryLogs
 pub mod StateHistories
+pub mod PlainHistories
 pub mod Sessions
 pub mod Worlds

@@ -4,19 +4,23 @@
 ghost use Rattle.std.specs.Prelude.{◌≡◌, ◌≢◌, ◌↔◌, ℕ, ◌+◌, ◌<◌, List, [], ◌∷◌, ◌++◌, map, length, take, Option, Some, ℤ, pos, ◌-ℤ◌, ◌<ℤ◌};
 ghost use Rattle.poly_specs.specs.Lists.{IsAmong};
 ghost use Rattle.poly_specs.specs.Fractions.{Fraction, IsFraction, SameFraction};
-ghost use Rattle.poly_specs.specs.Rows.{over, Row, AllHold, AllWide};
+ghost use Rattle.poly_specs.specs.Rows.{over, Point, Row, AllHold, AllWide};
 ghost use Rattle.run_specs.specs.declared.Verdict.TheVariants.{Overflow};
 ghost use Rattle.run_specs.specs.Automaton.{Automaton, Location, tolerance_at, width, location_at, transition_at};
-ghost use Rattle.run_specs.specs.WellFormed.{IsLocation};
+ghost use Rattle.run_specs.specs.WellFormed.{IsLocation, IsWellFormed};
 ghost use Rattle.run_specs.specs.Logs.{Sample, IsPassing, cell_at};
 ghost use Rattle.run_specs.specs.Runs.{Run, IsRun, IsLeg, IsJump};
 ghost use Rattle.run_specs.specs.Stages.{leg_slope, leg_point, leg_rows, jump_point, jump_rows, sample_rows, rows_after, leg_stage, jump_stage, sample_stage, gap_rows};
+ghost use Rattle.run_specs.specs.Keys.{Key, IsKey, parent_at};
+ghost use Rattle.run_specs.specs.Outcomes.{MayTake, IsEnd};
 ghost use Rattle.run_specs.specs.Ends.{SomeLegEnds, SomeJumpEnds, SomeSampleEnds};
 ghost use Rattle.run_specs.specs.Passes.{LogPasses, OpeningPasses};
 ghost use Rattle.run_specs.specs.Verdicts.{IsLawful, AreLawful, NoOverflow};
 
 pub mod first_runs;
 pub mod histories;
+pub mod history_logs;
+pub mod history_states;
 pub mod sessions;
 pub mod states;
 pub mod worlds;
@@ -132,4 +136,11 @@ pub fn sample_stage_is_exact()
         ((j : ℕ) → IsFraction (tolerance_at a j)) → ((j : ℕ) (x : Fraction) → cell_at j cells ≡ Some x → IsFraction x) →
         length cells ≡ width a → AllWide (width a + 1) state → pos 0 <ℤ d → length end ≡ width a →
         AllHold (rows_after (sample_stage a duration cells state)) (over d end) ↔ SomeSampleEnds a duration cells state (over d end) }
+{}
+
+/// The rows after the plain stages of a gap hold exactly at the ends of its gap runs.
+pub fn gap_stages_are_exact()
+    ensures { (key : Key) (i : ℕ) (path : List ℕ) (q : Point) → IsWellFormed key.automaton → IsKey key → MayTake key i path →
+        pos 0 <ℤ q.den → length q.num ≡ width key.automaton →
+        AllHold (gap_rows key.automaton (parent_at key i).loc path key.gap key.seen (parent_at key i).rows) q ↔ IsEnd key i path q }
 {}

@@ -8,6 +8,7 @@ ghost use Rattle.run_specs.specs.Aims.{Aim, to_alarm};
 ghost use Rattle.run_specs.specs.FirstRun.{IsFirstRun};
 ghost use Rattle.run_specs.specs.SessionHistories.{has_passed};
 ghost use Rattle.run_specs.specs.Sessions.{MonitorSession, IsMonitorSession};
+ghost use Rattle.run_specs.specs.PlainHistories.{IsPlainState};
 ghost use Rattle.run_specs.specs.StateHistories.{states_at, histories_at, state_at, history_at, HistoriesRise, EndsRun, HasMarksOf, EndsInState, CanMeet, IsOfFirstState};
 
 /// After a gap a state's rows hold exactly where runs with the state's history end.
@@ -49,4 +50,10 @@ pub fn marked_states_meet_alarms()
 pub fn first_run_is_of_a_state()
     ensures { (s : MonitorSession) (i : ℕ) (aim : Aim) (run : Run) → IsMonitorSession s → 0 < i → i ≤ length s.history.gaps → has_passed (take i s.history.gaps) ≡ false →
         IsFirstRun s.history.automaton s.history.jumps (take i s.log) aim run → (j : ℕ) × IsOfFirstState s.history aim i run j }
+{}
+
+/// Each stage of a state's history has a point, and the state's rows are among those after the last, and hold at the same points.
+pub fn states_have_plain_rows()
+    ensures { (s : MonitorSession) (i j : ℕ) → IsMonitorSession s → i ≤ length s.history.gaps → j < length (states_at s.history i) →
+        IsPlainState s.history.automaton s.history.jumps (take i s.log) (history_at s.history i j) (state_at s.history i j) }
 {}

@@ -21,7 +21,7 @@ use Rattle.run_specs.specs.Runs.{Leg, Move, LeadOn, total}
 use Rattle.run_specs.specs.Stages.{Stage, zeros, at_most, rows_after, row_of, sample_stage, path_rows}
 use Rattle.run_specs.specs.WellFormed.{IsWellFormed}
 use Rattle.sample_succ.specs.Plain.{IsPlain, IsLeft, IsLeftInTime, in_time}
-use Rattle.sample_succ.proofs.GapBack.{last_same, path_back}
+use Rattle.run_specs.proofs.GapBack.{last_same, path_back}
 
 -- ---- the row that no more time has elapsed than this
 

@@ -1,7 +1,5 @@
 pub mod StageFacts
 pub mod FreeColumns
-pub mod GapBack
-pub mod GapExact
 pub mod SampleRows
 pub mod PlainLemmas
 pub mod StartLemmas

@@ -8,7 +8,7 @@ use Rattle.poly_specs.specs.Lists.{IsAmong}
 use Rattle.poly_specs.specs.Rows.{Point, Row, over, AllHold, AllWide, HasPoint}
 use Rattle.poly_specs.specs.Systems.{System}
 use Rattle.run_specs.proofs.EndLemmas.{leg_ends, jump_ends}
-use Rattle.run_specs.proofs.GapEnds.{AllReached}
+use Rattle.run_specs.specs.PlainHistories.{AllReached}
 use Rattle.sample_succ.proofs.StageFacts.{passes_more, numbers_more, leg_within, jump_within}
 use Rattle.run_specs.proofs.PassesLemmas.{after_more, leg_more, leg_rows_more, jump_more, jump_rows_more, sample_rows_more}
 use Rattle.run_specs.proofs.SampleEnds.{sample_ends}
@@ -22,7 +22,7 @@ use Rattle.run_specs.specs.Stages.{Stage, SomeReachedPasses, rows_after, stage_n
 use Rattle.run_specs.specs.WellFormed.{IsWellFormed}
 use Rattle.sample_succ.specs.Plain.{IsPlain, in_time}
 use Rattle.sample_succ.specs.Walks.{before_rows, before_stages, HavePoints, plain_before, plain_after, IsNodeAt, IsAfter}
-use Rattle.sample_succ.proofs.GapExact.{gap_case, gap_exact, all_reached}
+use Rattle.run_specs.proofs.GapExact.{gap_case, gap_exact, all_reached}
 use Rattle.sample_succ.proofs.LateLemmas.{starts_in_time}
 use Rattle.sample_succ.proofs.PathLemmas.{end_more, fits_more, fits_rest, before_more, stages_more, path_stages_at, path_rows_at, path_rows_end, before_wide}
 use Rattle.sample_succ.proofs.PlainLemmas.{plain_then}

@@ -1,5 +1,6 @@
+use Rattle.run_specs.proofs.HistoryLogLemmas.{session_has_log}
 use Rattle.run_specs.proofs.StateLemmas.{marked_meet}
 use Rattle.run_specs.proofs.states.marked_states_meet_alarms.Goals as goal
 
 pub returns : goal.returns
-returns c s i j is h hj = marked_meet s i j is h hj
+returns c s i j is h hj = marked_meet s.history s.log i j (session_has_log s is) h hj

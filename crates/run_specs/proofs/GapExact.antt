@@ -1,49 +1,25 @@
 -- The rows after the plain stages of a gap hold exactly at the ends of its gap runs.
-use Rattle.std.proofs.Common.{◌≡◌, ◌↔◌, ℕ, ◌+◌, ◌<◌, inl, inr, List, length, Option, Some, None, refl, sym, ap, subst, arith, ℤ, pos, ◌<ℤ◌}
-use Rattle.std.specs.Prelude.{IfSome, slice_index_or, All}
-use Rattle.std.proofs.lemmas.Bool.{cases_lt}
-use Rattle.std.proofs.lemmas.List.{get_or_past}
-use Rattle.run_specs.proofs.GapEnds.{IsGapCase, AllReached, gap_there}
+use Rattle.std.proofs.Common.{◌≡◌, ◌↔◌, ℕ, ◌<◌, List, length, sym, subst, pos, ◌<ℤ◌}
+use Rattle.run_specs.specs.PlainHistories.{AllReached}
+use Rattle.run_specs.proofs.GapEnds.{IsGapCase, gap_there}
+use Rattle.run_specs.proofs.OverflowLemmas.{key_case}
 use Rattle.run_specs.proofs.RunEndLemmas.{all_same}
-use Rattle.run_specs.proofs.StageWidths.{end_within}
-use Rattle.poly_specs.specs.Fractions.{Fraction, IsFraction, zero_fraction, AtMost}
-use Rattle.poly_specs.specs.LowestTerms.{IsLowest}
-use Rattle.poly_specs.specs.Rows.{Point, AllHold, over}
-use Rattle.run_specs.specs.Automaton.{Automaton, width, tolerance_at}
+use Rattle.poly_specs.specs.Rows.{Point, AllHold}
+use Rattle.run_specs.specs.Automaton.{Automaton, width}
 use Rattle.run_specs.specs.Keys.{State, Key, IsState, IsKey, no_state, parent_at}
-use Rattle.run_specs.specs.Logs.{cell_at}
 use Rattle.run_specs.specs.Outcomes.{MayTake, LeadsTo, IsEnd}
 use Rattle.run_specs.specs.Passes.{Fits}
-use Rattle.run_specs.specs.Runs.{GapRun, path_of, start_point, end_point}
+use Rattle.run_specs.specs.Runs.{GapRun, path_of, end_point}
 use Rattle.run_specs.specs.Stages.{gap_stages, gap_rows}
 use Rattle.run_specs.specs.WellFormed.{IsWellFormed}
-use Rattle.sample_succ.proofs.GapBack.{GapBack, gap_back}
-
--- each tolerance is a fraction, past the last 0
-tolerance_is : (a : Automaton) → IsWellFormed a → (j : ℕ) → IsFraction (tolerance_at a j)
-tolerance_is a wf j = elim (cases_lt j (length a.obs)) [
-  | inl lt ↦ (wf.tolerances.1 j zero_fraction lt).0.positive
-  | inr ge ↦ subst IsFraction (sym (get_or_past a.obs j zero_fraction ge)) (omega arith)
-]
-
-cell_is : (seen : List (Option Fraction)) → All (λ cell. IfSome cell IsLowest) seen → (j : ℕ) (x : Fraction) → cell_at j seen ≡ Some x → IsFraction x
-cell_is seen all j x e = elim (cases_lt j (length seen)) [
-  | inl lt ↦ (subst (λ o. IfSome o IsLowest) e (all j None lt)).positive
-  | inr ge ↦ absurd (let none = get_or_past seen j None ge in let b : ⊥ = cc in b)
-]
+use Rattle.run_specs.proofs.GapBack.{gap_back}
 
 -- what the stages of a gap need, for a parent of a key
 pub gap_case : (key : Key) (i : ℕ) → IsWellFormed key.automaton → IsKey key → i < length key.belief →
     IsGapCase key.automaton (parent_at key i).loc key.seen (parent_at key i).rows
 gap_case key i wf is h =
     let state : IsState key.automaton (parent_at key i) = is.belief i no_state h in
-    record {
-      loc = state.loc;
-      wide = state.wide;
-      tolerances = tolerance_is key.automaton wf;
-      values = cell_is key.seen is.seen;
-      sized = is.sized;
-    }
+    key_case key (parent_at key i).loc (parent_at key i).rows wf is state.loc state.wide
 
 -- where a gap run leads, the gap's stages have points, and the rows after them hold
 gap_of_run : (key : Key) (i : ℕ) (path : List ℕ) (q : Point) → IsWellFormed key.automaton → IsKey key → MayTake key i path → (g : GapRun) → LeadsTo key i path q g →

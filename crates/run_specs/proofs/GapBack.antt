@@ -1,6 +1,5 @@
 -- Where the rows after a gap's stages hold, a gap run ends: its parts are written over one denominator.
-use Rattle.std.proofs.Common.{◌≡◌, ◌↔◌, ℕ, zero, suc, ◌+◌, ◌<◌, List, [], ◌∷◌, ◌++◌, length, length-append, take, drop, map, Option, Some, refl, sym, ◌∙◌, ap, ap₂, subst, arith, ℤ, pos, ◌+ℤ◌, ◌-ℤ◌, ◌*ℤ◌, ◌<ℤ◌}
-use Rattle.std.specs.Prelude.{All}
+use Rattle.std.proofs.Common.{◌≡◌, ℕ, zero, suc, ◌+◌, ◌<◌, List, [], ◌∷◌, ◌++◌, length, length-append, take, drop, Option, refl, sym, ◌∙◌, ap, subst, arith, ℤ, pos, ◌+ℤ◌, ◌-ℤ◌, ◌*ℤ◌, ◌<ℤ◌}
 use Rattle.std.proofs.lemmas.Int.{ints}
 use Rattle.std.proofs.lemmas.List.{length-map}
 use Rattle.poly_specs.proofs.FractionLemmas.{same-trans}
@@ -12,7 +11,6 @@ use Rattle.run_specs.proofs.FirstRunLemmas.{scaled-append, split_same}
 use Rattle.run_specs.proofs.GapEnds.{IsGapCase, start_holds}
 use Rattle.run_specs.proofs.HistorySystems.{AreCells, leg_system, jump_system, passing_system, same_leg, same_jump, take_here, drop_here}
 use Rattle.run_specs.proofs.MixLemmas.{transitions}
-use Rattle.run_specs.proofs.MixRuns.{length-same_point}
 use Rattle.run_specs.proofs.RunEndLemmas.{all_same}
 use Rattle.run_specs.proofs.SampleEnds.{sample_ends}
 use Rattle.run_specs.proofs.StageWidths.{location_is, transition_is, leg_after_wide, jump_wide_of, path_wide, start_wide}
@@ -21,7 +19,7 @@ use Rattle.poly_specs.specs.Lists.{scaled, number_at}
 use Rattle.poly_specs.specs.Fractions.{Fraction, IsFraction, SameFraction}
 use Rattle.poly_specs.specs.Rows.{Point, Row, over, AllHold, AllWide, SamePoint}
 use Rattle.run_specs.specs.Automaton.{Automaton, width, location_at, transition_at}
-use Rattle.run_specs.specs.WellFormed.{IsLocation, IsWellFormed}
+use Rattle.run_specs.specs.WellFormed.{IsWellFormed}
 use Rattle.run_specs.specs.Logs.{IsPassing}
 use Rattle.run_specs.specs.Runs.{Leg, Move, GapRun, IsLeg, IsJump, LeadOn, IsGapRun, path_of, total, start_point, end_point}
 use Rattle.run_specs.specs.Passes.{Fits}
