@@ -3,3 +3,4 @@ pub mod NumeralLemmas
 pub mod LiteralLemmas
 pub mod TextLemmas
 pub mod ExampleTexts
+pub mod FormLemmas
