@@ -219,7 +219,7 @@ scans text w h =
 -- ---- what it is worth
 
 -- a number that is written, as a fraction
-abbrev fraction_of : Decimal → Fraction
+abbrev pub fraction_of : Decimal → Fraction
 fraction_of d = record { num = signed d.is_negative d.top; den = pos d.bottom }
 
 pos_times : (n m : ℕ) → pos (n * m) ≡ pos n *ℤ pos m
@@ -317,13 +317,13 @@ shifted_is n (pos e) = omega (arith, ints)
 shifted_is n (negsuc e) = let h = power-positive (suc e) in omega (arith, ints, h)
 
 -- what is read of a writing, and what it is worth
-record Means (text : List ℕ) (w : Writing) : Type 0 where
-  decimal : Decimal
-  reads : read_number text ≡ number_of (Some decimal)
-  positive : 0 < decimal.bottom
-  same : SameFraction (fraction_of decimal) (worth w)
+pub record Means (text : List ℕ) (w : Writing) : Type 0 where
+  pub decimal : Decimal
+  pub reads : read_number text ≡ number_of (Some decimal)
+  pub positive : 0 < decimal.bottom
+  pub same : SameFraction (fraction_of decimal) (worth w)
 
-means : (text : List ℕ) (w : Writing) → IsWriting text w → Means text w
+pub means : (text : List ℕ) (w : Writing) → IsWriting text w → Means text w
 means text w h =
     let s = scans text w h in
     let e : Exponent = record { is_negative = s.is_negative; size = s.size } in record {

@@ -4,3 +4,4 @@ pub mod LiteralLemmas
 pub mod TextLemmas
 pub mod ExampleTexts
 pub mod FormLemmas
+pub mod ScanLemmas

@@ -6,7 +6,7 @@ ghost use Rattle.poly_specs.specs.Fractions.{Fraction, SameFraction};
 ghost use Rattle.poly_specs.specs.Arithmetic.{IsKept};
 ghost use Rattle.number_specs.specs.LogNumbers.{read_number, IsLogNumber};
 ghost use Rattle.number_specs.specs.NumberForms.{Writing, IsWriting, worth};
-ghost use Rattle.number_specs.specs.declared.NumFault.TheVariants.{Range};
+ghost use Rattle.number_specs.specs.declared.NumFault.TheVariants.{Form, Range};
 ghost use Rattle.number_specs.specs.Literals.{read_literal, IsLiteralNumber};
 ghost use Rattle.number_specs.specs.FractionTexts.{fraction_text};
 
@@ -36,6 +36,11 @@ pub fn written_numbers_are_read()
 pub fn other_written_numbers_are_out_of_range()
     ensures { (text : List ℕ) (w : Writing) → IsWriting text w →
         (read_number text ≡ Err Range) ↔ ((v : Fraction) → IsLogNumber v → SameFraction v (worth w) → ⊥) }
+{}
+
+/// A text that is not written so is no number.
+pub fn other_texts_are_no_numbers()
+    ensures { (text : List ℕ) → (read_number text ≡ Err Form) ↔ ((w : Writing) → IsWriting text w → ⊥) }
 {}
 
 /// A literal that is read is in lowest terms and at least 0, and both of its numbers have at most nine digits.
