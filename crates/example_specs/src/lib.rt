@@ -5,6 +5,7 @@ ghost use Rattle.std.specs.Prelude.{[], ◌∷◌};
 ghost use Rattle.run_specs.specs.declared.Verdict.TheVariants.{Alarm, Impossible};
 ghost use Rattle.run_specs.specs.WellFormed.{IsWellFormed};
 ghost use Rattle.run_specs.specs.Runs.{IsRun, VisitsUnsafe};
+ghost use Rattle.run_specs.specs.Aims.{to_alarm};
 ghost use Rattle.run_specs.specs.FirstRun.{IsFirstRun};
 ghost use Rattle.run_specs.specs.Verdicts.{IsLawful, IsPossible};
 ghost use Rattle.example_specs.specs.Literals.{fraction, whole, observes, blank};
@@ -45,7 +46,7 @@ pub fn shutter_unobserved()
 
 /// That run is the first one: 1/2 is the pick of the values that are left for its end, and the rest follows.
 pub fn shutter_first_run()
-    ensures { IsFirstRun shutter 1 (blank (whole 0) ∷ []) half_run }
+    ensures { IsFirstRun shutter 1 (blank (whole 0) ∷ []) to_alarm half_run }
 {}
 
 /// The shutter's value is never 0, since its rows are strict.

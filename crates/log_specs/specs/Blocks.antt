@@ -3,6 +3,7 @@ use Rattle.std.specs.Prelude.{◌≡◌, ◌⊎◌, ℕ, List, [], ◌∷◌, �
 use Rattle.run_specs.specs.Automaton.{Automaton}
 use Rattle.run_specs.specs.Logs.{Sample}
 use Rattle.run_specs.specs.Runs.{Run}
+use Rattle.run_specs.specs.Aims.{to_alarm}
 use Rattle.run_specs.specs.FirstRun.{IsFirstRun}
 use Rattle.run_specs.specs.RunPasses.{RunPasses}
 use Rattle.run_specs.specs.declared.Verdict.{Verdict}
@@ -113,7 +114,7 @@ printed_overflow = codes "+ overflow\n"
 abbrev pub IsRunPart : Automaton → ℕ → List Sample → Bool → List ℕ → Type 0
 IsRunPart a k samples false bytes = bytes ≡ []
 IsRunPart a k samples true bytes =
-    ((run : Run) × IsFirstRun a k samples run × (bytes ≡ printed_run run)) ⊎ (RunPasses a k samples × (bytes ≡ printed_overflow))
+    ((run : Run) × IsFirstRun a k samples to_alarm run × (bytes ≡ printed_run run)) ⊎ (RunPasses a k samples to_alarm × (bytes ≡ printed_overflow))
 
 -- ---- blocks
 

@@ -9,17 +9,18 @@ use Rattle.poly_specs.proofs.PickLemmas.{unique, pick-alike}
 use Rattle.poly_specs.proofs.PrimitiveLemmas.{one_spelling}
 use Rattle.run_specs.proofs.HistoryLemmas.{one_earlier}
 use Rattle.run_specs.proofs.MixLemmas.{transitions}
-use Rattle.run_specs.proofs.MixRuns.{IsAlike}
-use Rattle.run_specs.proofs.PickedLemmas.{AllFractions, before_numbers, last_numbers, picked_numbers, runs_alike, left_interval}
+use Rattle.run_specs.proofs.MixRuns.{IsAlike, runs_alike}
+use Rattle.run_specs.proofs.PickedLemmas.{AllFractions, before_numbers, last_numbers, picked_numbers, left_interval}
 use Rattle.poly_specs.specs.Lists.{scaled}
 use Rattle.poly_specs.specs.Fractions.{Fraction, SameFraction, fractions, zero_fraction}
 use Rattle.poly_specs.specs.Rows.{SamePoint}
 use Rattle.run_specs.specs.Automaton.{Automaton, width, transition_at}
 use Rattle.run_specs.specs.WellFormed.{IsWellFormed}
 use Rattle.run_specs.specs.Logs.{Sample}
-use Rattle.run_specs.specs.Runs.{Leg, Move, GapRun, Place, Run, LeadOn, Follows, VisitsUnsafe, start_point, end_point, end_of}
+use Rattle.run_specs.specs.Runs.{Leg, Move, GapRun, Place, Run, LeadOn, Follows, start_point, end_point, end_of}
 use Rattle.run_specs.specs.Histories.{History, history_of}
-use Rattle.run_specs.specs.FirstRun.{backwards, numbers_before, last_values, picked, pick_at, IsAlarmRun, IsLeft, IsReduced, IsFirstRun}
+use Rattle.run_specs.specs.Aims.{Aim, EndsWhere, IsAimedRun}
+use Rattle.run_specs.specs.FirstRun.{backwards, numbers_before, last_values, picked, pick_at, IsLeft, IsReduced, IsFirstRun}
 
 -- ---- lists of fractions
 
@@ -60,55 +61,55 @@ AllZip-split (x ∷ xs) (y ∷ ys) us vs l e = let r = AllZip-split xs ys us vs 
 
 -- ---- the numbers that are picked
 
-history_same : (a : Automaton) (k : ℕ) (ss : List Sample) (r s : Run) → IsFirstRun a k ss r → IsFirstRun a k ss s → history_of r ≡ history_of s
-history_same a k ss r s one two = elim (one_earlier (history_of r) (history_of s)) [
-  | inl e ↦ absurd (two.earliest r one.alarm e)
+history_same : (a : Automaton) (k : ℕ) (ss : List Sample) (aim : Aim) (r s : Run) → IsFirstRun a k ss aim r → IsFirstRun a k ss aim s → history_of r ≡ history_of s
+history_same a k ss aim r s one two = elim (one_earlier (history_of r) (history_of s)) [
+  | inl e ↦ absurd (two.earliest r one.aimed e)
   | inr (inl e) ↦ e
-  | inr (inr e) ↦ absurd (one.earliest s two.alarm e)
+  | inr (inr e) ↦ absurd (one.earliest s two.aimed e)
 ]
 
 -- what is left for a number does not depend on which of two runs that agree so far is looked at
-left_alike : (a : Automaton) (k : ℕ) (ss : List Sample) (r s : Run) (i : ℕ) (v : Fraction) → history_of s ≡ history_of r → IsAlarmRun a k ss r → IsAlarmRun a k ss s →
-    AllZip SameFraction (take i (picked s)) (take i (picked r)) → IsLeft a k ss s i v → IsLeft a k ss r i v
-left_alike a k ss r s i v history one two same (other, t) =
-    let n = picked_numbers a (pos 1) (pos 1) other s (runs_alike a k ss other s t.same_history t.alarm two) in
-    let m = picked_numbers a (pos 1) (pos 1) s r (runs_alike a k ss s r history two one) in (
+left_alike : (a : Automaton) (k : ℕ) (ss : List Sample) (aim : Aim) (r s : Run) (i : ℕ) (v : Fraction) → history_of s ≡ history_of r → IsAimedRun a k ss aim r → IsAimedRun a k ss aim s →
+    AllZip SameFraction (take i (picked s)) (take i (picked r)) → IsLeft a k ss aim s i v → IsLeft a k ss aim r i v
+left_alike a k ss aim r s i v history one two same (other, t) =
+    let n = picked_numbers a (pos 1) (pos 1) other s (runs_alike a k ss other s t.same_history t.aimed.run_of two.run_of) in
+    let m = picked_numbers a (pos 1) (pos 1) s r (runs_alike a k ss s r history two.run_of one.run_of) in (
       other,
       record {
-        alarm = t.alarm;
+        aimed = t.aimed;
         same_history = t.same_history ∙ history;
         same_numbers = AllZip-trans i (picked other) (picked s) (picked r) n.first n.second m.second t.same_numbers same;
         value = t.value;
       },
     )
 
-agree : (a : Automaton) (k : ℕ) (ss : List Sample) (r s : Run) (i : ℕ) → IsWellFormed a → IsFirstRun a k ss r → IsFirstRun a k ss s → i ≤ length (picked r) →
+agree : (a : Automaton) (k : ℕ) (ss : List Sample) (aim : Aim) (r s : Run) (i : ℕ) → IsWellFormed a → IsFirstRun a k ss aim r → IsFirstRun a k ss aim s → i ≤ length (picked r) →
     AllZip SameFraction (take i (picked r)) (take i (picked s))
-agree a k ss r s zero wf one two h = tt
-agree a k ss r s (suc i) wf one two h =
-    let history = history_same a k ss r s one two in
-    let long = (picked_numbers a (pos 1) (pos 1) r s (runs_alike a k ss r s history one.alarm two.alarm)).long in
-    let so_far = agree a k ss r s i wf one two (omega arith) in
+agree a k ss aim r s zero wf one two h = tt
+agree a k ss aim r s (suc i) wf one two h =
+    let history = history_same a k ss aim r s one two in
+    let long = (picked_numbers a (pos 1) (pos 1) r s (runs_alike a k ss r s history one.aimed.run_of two.aimed.run_of)).long in
+    let so_far = agree a k ss aim r s i wf one two (omega arith) in
     let first : i < length (picked r) = omega arith in
     let second : i < length (picked s) = omega (arith, long) in
-    let there = pick-alike {S = IsLeft a k ss s i} {T = IsLeft a k ss r i}
-    (λ v. left_alike a k ss r s i v (sym history) one.alarm two.alarm (AllZip-swap i (picked r) (picked s) so_far))
-    (λ v. left_alike a k ss s r i v history two.alarm one.alarm so_far) (pick_at i s) (two.picks i second) in
+    let there = pick-alike {S = IsLeft a k ss aim s i} {T = IsLeft a k ss aim r i}
+    (λ v. left_alike a k ss aim r s i v (sym history) one.aimed two.aimed (AllZip-swap i (picked r) (picked s) so_far))
+    (λ v. left_alike a k ss aim s r i v history two.aimed one.aimed so_far) (pick_at i s) (two.picks i second) in
     one_more i (picked r) (picked s) first second so_far
-    (unique (pick_at i r) (pick_at i s) (left_interval a k ss r i wf one.alarm first) (one.picks i first) there)
+    (unique (pick_at i r) (pick_at i s) (left_interval a k ss aim r i wf one.aimed first) (one.picks i first) there)
 
-pub all_agree : (a : Automaton) (k : ℕ) (ss : List Sample) (r s : Run) → IsWellFormed a → IsFirstRun a k ss r → IsFirstRun a k ss s → AllZip SameFraction (picked r) (picked s)
-all_agree a k ss r s wf one two =
-    let history = history_same a k ss r s one two in
-    let long = (picked_numbers a (pos 1) (pos 1) r s (runs_alike a k ss r s history one.alarm two.alarm)).long in
-    let all = agree a k ss r s (length (picked r)) wf one two (omega arith) in
+pub all_agree : (a : Automaton) (k : ℕ) (ss : List Sample) (aim : Aim) (r s : Run) → IsWellFormed a → IsFirstRun a k ss aim r → IsFirstRun a k ss aim s → AllZip SameFraction (picked r) (picked s)
+all_agree a k ss aim r s wf one two =
+    let history = history_same a k ss aim r s one two in
+    let long = (picked_numbers a (pos 1) (pos 1) r s (runs_alike a k ss r s history one.aimed.run_of two.aimed.run_of)).long in
+    let all = agree a k ss aim r s (length (picked r)) wf one two (omega arith) in
     let first : take (length (picked r)) (picked r) ≡ picked r = take_whole (picked r) in
     let second : take (length (picked r)) (picked s) ≡ picked s = ap (λ n. take n (picked s)) long ∙ take_whole (picked s) in
     subst (λ ys. AllZip SameFraction (picked r) ys) second (subst (λ xs. AllZip SameFraction xs (take (length (picked r)) (picked s))) first all)
 
 -- ---- gap runs from their numbers
 
-scaled_same : (d c : ℤ) (ns ms : List ℤ) → AllZip SameFraction (fractions d ns) (fractions c ms) → scaled c ns ≡ scaled d ms
+pub scaled_same : (d c : ℤ) (ns ms : List ℤ) → AllZip SameFraction (fractions d ns) (fractions c ms) → scaled c ns ≡ scaled d ms
 scaled_same d c [] [] e = refl
 scaled_same d c [] (m ∷ ms) e = absurd e
 scaled_same d c (n ∷ ns) [] e = absurd e
@@ -208,12 +209,12 @@ gaps_same a k p q t (s ∷ ss) (g ∷ gs) (h ∷ hs) is one two rg rh last befor
 
 -- ---- the first run
 
-same_start : (a : Automaton) (k : ℕ) (ss : List Sample) (r s : Run) → IsAlarmRun a k ss r → IsAlarmRun a k ss s → r.gaps ≡ s.gaps → SamePoint r.start.point s.start.point
-same_start a k ss r s one two same = go ss r.gaps s.gaps same one.visits one.run_of.follows two.run_of.follows
+same_start : (a : Automaton) (k : ℕ) (ss : List Sample) (aim : Aim) (r s : Run) → IsAimedRun a k ss aim r → IsAimedRun a k ss aim s → r.gaps ≡ s.gaps → SamePoint r.start.point s.start.point
+same_start a k ss aim r s one two same = go ss r.gaps s.gaps same one.meets.ends one.run_of.follows two.run_of.follows
   where
-    go : (ss : List Sample) (gs hs : List GapRun) → gs ≡ hs → VisitsUnsafe a (record { start = r.start; gaps = gs }) →
+    go : (ss : List Sample) (gs hs : List GapRun) → gs ≡ hs → EndsWhere aim.rows gs →
         Follows a k r.start zero_fraction ss gs → Follows a k s.start zero_fraction ss hs → SamePoint r.start.point s.start.point
-    go ss [] hs same (i, g, h, e, u) f1 f2 = absurd (omega arith)
+    go ss [] hs same v f1 f2 = absurd v
     go [] (g ∷ gs) hs same v f1 f2 = absurd f1
     go (s' ∷ ss) (g ∷ gs) [] same v f1 f2 = absurd f2
     go (s' ∷ ss) (g ∷ gs) (h ∷ hs) same v f1 f2 =
@@ -221,11 +222,11 @@ same_start a k ss r s one two same = go ss r.gaps s.gaps same one.visits one.run
         let there : SamePoint (start_point g) s.start.point = subst (λ x. SamePoint (start_point x) s.start.point) (sym here) f2.0.same_point in
         SamePoint-trans r.start.point (start_point g) s.start.point f1.0.gap_run.positive (sym f1.0.same_point) there
 
-pub one_first_run : (a : Automaton) (k : ℕ) (ss : List Sample) (r s : Run) → IsWellFormed a → IsFirstRun a k ss r → IsFirstRun a k ss s →
+pub one_first_run : (a : Automaton) (k : ℕ) (ss : List Sample) (aim : Aim) (r s : Run) → IsWellFormed a → IsFirstRun a k ss aim r → IsFirstRun a k ss aim s →
     (r.gaps ≡ s.gaps) × (r.start.loc ≡ s.start.loc) × SamePoint r.start.point s.start.point
-one_first_run a k ss r s wf one two =
-    let history = history_same a k ss r s one two in
-    let is = runs_alike a k ss r s history one.alarm two.alarm in
-    let parts = AllZip-split (last_values r.gaps) (last_values s.gaps) (numbers_before r.gaps) (numbers_before s.gaps) (last_numbers a (pos 1) (pos 1) r.gaps s.gaps is).long (all_agree a k ss r s wf one two) in
-    let gaps : r.gaps ≡ s.gaps = gaps_same a k r.start s.start zero_fraction ss r.gaps s.gaps is one.alarm.run_of.follows two.alarm.run_of.follows one.reduced two.reduced parts.0 parts.1 in
-    (gaps, ap (λ (h : History). h.start) history, same_start a k ss r s one.alarm two.alarm gaps)
+one_first_run a k ss aim r s wf one two =
+    let history = history_same a k ss aim r s one two in
+    let is = runs_alike a k ss r s history one.aimed.run_of two.aimed.run_of in
+    let parts = AllZip-split (last_values r.gaps) (last_values s.gaps) (numbers_before r.gaps) (numbers_before s.gaps) (last_numbers a (pos 1) (pos 1) r.gaps s.gaps is).long (all_agree a k ss aim r s wf one two) in
+    let gaps : r.gaps ≡ s.gaps = gaps_same a k r.start s.start zero_fraction ss r.gaps s.gaps is one.aimed.run_of.follows two.aimed.run_of.follows one.reduced two.reduced parts.0 parts.1 in
+    (gaps, ap (λ (h : History). h.start) history, same_start a k ss aim r s one.aimed two.aimed gaps)

@@ -16,6 +16,7 @@ pub mod MixLemmas
 pub mod MixRuns
 pub mod PickedLemmas
 pub mod FirstRunLemmas
+pub mod AimLemmas
 pub mod LeastHistories
 pub mod ScaledRows
 pub mod StageWidths

@@ -9,13 +9,13 @@ use Rattle.poly_specs.proofs.FractionLemmas.{same-trans, shuffle}
 use Rattle.poly_specs.proofs.ColumnLemmas.{coordinates, point-from_coordinates}
 use Rattle.run_specs.proofs.MixLemmas.{mixed, length-mixed, number-mixed, IsMix, mix-positive, rows-mixed, mixed_leg, mixed_moves, transitions-mixed, total-mixed, lead-mixed, passing-mixed}
 use Rattle.poly_specs.specs.Fractions.{Fraction, IsFraction, SameFraction, difference, zero_fraction}
-use Rattle.poly_specs.specs.Rows.{Point, over, coordinate, SamePoint, AllHold}
+use Rattle.poly_specs.specs.Rows.{Point, Row, over, coordinate, SamePoint, AllHold}
 use Rattle.run_specs.specs.Automaton.{Automaton, width, location_at}
 use Rattle.run_specs.specs.WellFormed.{IsLocation}
 use Rattle.run_specs.specs.Logs.{Sample}
 use Rattle.run_specs.specs.Runs.{GapRun, Place, Run, LeadOn, IsGapRun, Continues, Follows, IsStart, IsRun, path_of, end_of, end_loc, end_point, start_point, goes_unsafe, total}
 use Rattle.run_specs.specs.Histories.{History, history_of}
-use Rattle.run_specs.specs.FirstRun.{IsAlarmRun}
+use Rattle.run_specs.specs.Aims.{Aim, EndsWhere, IsAimedRun}
 
 -- ---- fractions
 
@@ -292,10 +292,27 @@ unsafe-mixed a w x (g ∷ gs) (h ∷ hs) same =
     let here = ap (λ path. goes_unsafe a g.start_loc path) (path-mixed w x g h (paths_head g h gs hs same)) in
     let rest = unsafe-mixed a w x gs hs (paths_tail g h gs hs same) in cc
 
-pub alarm-mixed : (a : Automaton) (k : ℕ) (w x : ℤ) (ss : List Sample) (r s : Run) → IsMixing a w x → history_of r ≡ history_of s → IsAlarmRun a k ss r → IsAlarmRun a k ss s →
-    IsAlarmRun a k ss (mixed_run w x r s)
-alarm-mixed a k w x ss r s is same one two = record {
+ends-mixed : (a : Automaton) (w x : ℤ) (rows : List Row) (gs hs : List GapRun) → IsMixing a w x → AllZip (IsAlike a) gs hs → EndsWhere rows gs → EndsWhere rows hs →
+    EndsWhere rows (mixed_gaps w x gs hs)
+ends-mixed a w x rows [] hs is like one two = absurd one
+ends-mixed a w x rows (g ∷ gs) [] is like one two = absurd two
+ends-mixed a w x rows (g ∷ []) (h ∷ []) is like one two =
+    rows-mixed rows g.last.at_end h.last.at_end (gap_mix w x g.den h.den is.first is.second like.0.first_den like.0.second_den) (like.0.first_end ∙ sym like.0.second_end) one two
+ends-mixed a w x rows (g ∷ []) (h ∷ h' ∷ hs) is like one two = absurd like.1
+ends-mixed a w x rows (g ∷ g' ∷ gs) (h ∷ []) is like one two = absurd like.1
+ends-mixed a w x rows (g ∷ g' ∷ gs) (h ∷ h' ∷ hs) is like one two = ends-mixed a w x rows (g' ∷ gs) (h' ∷ hs) is like.1 one two
+
+pub runs_alike : (a : Automaton) (k : ℕ) (ss : List Sample) (r s : Run) → history_of r ≡ history_of s → IsRun a k ss r → IsRun a k ss s → AllZip (IsAlike a) r.gaps s.gaps
+runs_alike a k ss r s same one two =
+    all_alike a k r.start s.start zero_fraction ss r.gaps s.gaps (start_places a r s same one.starts two.starts) (ap (λ (h : History). h.paths) same) one.follows two.follows
+
+pub aimed-mixed : (a : Automaton) (k : ℕ) (w x : ℤ) (ss : List Sample) (aim : Aim) (r s : Run) → IsMixing a w x → history_of r ≡ history_of s →
+    IsAimedRun a k ss aim r → IsAimedRun a k ss aim s → IsAimedRun a k ss aim (mixed_run w x r s)
+aimed-mixed a k w x ss aim r s is same one two = record {
   run_of = run-mixed a k w x ss r s is same one.run_of two.run_of;
-  visits = Any-from_list_any (λ g. goes_unsafe a g.start_loc (path_of g)) (mixed_gaps w x r.gaps s.gaps)
-      (unsafe-mixed a w x r.gaps s.gaps (ap (λ (h : History). h.paths) same) ∙ list_any-from_Any (λ g. goes_unsafe a g.start_loc (path_of g)) r.gaps one.visits);
+  meets = record {
+    visits = λ t. Any-from_list_any (λ g. goes_unsafe a g.start_loc (path_of g)) (mixed_gaps w x r.gaps s.gaps)
+        (unsafe-mixed a w x r.gaps s.gaps (ap (λ (h : History). h.paths) same) ∙ list_any-from_Any (λ g. goes_unsafe a g.start_loc (path_of g)) r.gaps (one.meets.visits t));
+    ends = ends-mixed a w x aim.rows r.gaps s.gaps is (runs_alike a k ss r s same one.run_of two.run_of) one.meets.ends two.meets.ends;
+  };
 }

@@ -5,15 +5,16 @@ use Rattle.std.proofs.lemmas.Int.{ints}
 use Rattle.poly_specs.proofs.IntLemmas.{products, expand, product_positive}
 use Rattle.poly_specs.proofs.FractionLemmas.{AtMost-trans, AtMost-same, either, same-AtMost, same-trans}
 use Rattle.run_specs.proofs.MixLemmas.{mixed, mixed-append, mixed_leg, mixed_moves, transitions}
-use Rattle.run_specs.proofs.MixRuns.{mid, mid-of_same, mixed_gap, mixed_gaps, mixed_run, IsAlike, start_places, all_alike, history-mixed, alarm-mixed}
+use Rattle.run_specs.proofs.MixRuns.{mid, mid-of_same, mixed_gap, mixed_gaps, mixed_run, IsAlike, runs_alike, history-mixed, aimed-mixed}
 use Rattle.poly_specs.specs.Fractions.{Fraction, IsFraction, SameFraction, AtMost, Below, fractions, zero_fraction}
 use Rattle.poly_specs.specs.Sets.{IsInterval}
 use Rattle.run_specs.specs.Automaton.{Automaton, width, transition_at}
 use Rattle.run_specs.specs.WellFormed.{IsWellFormed}
 use Rattle.run_specs.specs.Logs.{Sample}
 use Rattle.run_specs.specs.Runs.{Leg, Move, GapRun, Run, LeadOn}
-use Rattle.run_specs.specs.Histories.{History, history_of}
-use Rattle.run_specs.specs.FirstRun.{backwards, numbers_before, last_values, picked, pick_at, IsAlarmRun, Takes, IsLeft}
+use Rattle.run_specs.specs.Histories.{history_of}
+use Rattle.run_specs.specs.Aims.{Aim, IsAimedRun}
+use Rattle.run_specs.specs.FirstRun.{backwards, numbers_before, last_values, picked, pick_at, Takes, IsLeft}
 
 -- ---- lists of fractions
 
@@ -179,11 +180,6 @@ picked_numbers a w x r s is =
           ∙ sym (mids-append w x (last_values r.gaps) (last_values s.gaps) (numbers_before r.gaps) (numbers_before s.gaps) l.long);
     }
 
-pub runs_alike : (a : Automaton) (k : ℕ) (ss : List Sample) (r s : Run) → history_of r ≡ history_of s → IsAlarmRun a k ss r → IsAlarmRun a k ss s → AllZip (IsAlike a) r.gaps s.gaps
-runs_alike a k ss r s same one two =
-    all_alike a k r.start s.start zero_fraction ss r.gaps s.gaps (start_places a r s same one.run_of.starts two.run_of.starts) (ap (λ (h : History). h.paths) same)
-    one.run_of.follows two.run_of.follows
-
 -- ---- the interval
 
 -- the weights with which y stands between p and q
@@ -220,21 +216,21 @@ between_weights p q y = go p.num p.den q.num q.den y.num y.den (q.num *ℤ y.den
             swap : (h d m : ℤ) → (h *ℤ d) *ℤ m ≡ (m *ℤ d) *ℤ h
             swap h d m = omega (arith, products)
 
-pub left_interval : (a : Automaton) (k : ℕ) (ss : List Sample) (run : Run) (i : ℕ) → IsWellFormed a → IsAlarmRun a k ss run → i < length (picked run) → IsInterval (IsLeft a k ss run i)
-left_interval a k ss run i wf alarm hi = record { same = same; between = between }
+pub left_interval : (a : Automaton) (k : ℕ) (ss : List Sample) (aim : Aim) (run : Run) (i : ℕ) → IsWellFormed a → IsAimedRun a k ss aim run → i < length (picked run) → IsInterval (IsLeft a k ss aim run i)
+left_interval a k ss aim run i wf aimed hi = record { same = same; between = between }
   where
     -- what is known of a run that agrees with this one
-    known : (other : Run) (v : Fraction) → Takes a k ss run i v other → AllFractions (picked other) × (length (picked other) ≡ length (picked run))
-    known other v t = let n = picked_numbers a (pos 1) (pos 1) other run (runs_alike a k ss other run t.same_history t.alarm alarm) in (n.first, n.long)
+    known : (other : Run) (v : Fraction) → Takes a k ss aim run i v other → AllFractions (picked other) × (length (picked other) ≡ length (picked run))
+    known other v t = let n = picked_numbers a (pos 1) (pos 1) other run (runs_alike a k ss other run t.same_history t.aimed.run_of aimed.run_of) in (n.first, n.long)
 
-    with_value : (other : Run) (x y : Fraction) → SameFraction (pick_at i other) y → Takes a k ss run i x other → Takes a k ss run i y other
-    with_value other x y e t = record { alarm = t.alarm; same_history = t.same_history; same_numbers = t.same_numbers; value = e }
+    with_value : (other : Run) (x y : Fraction) → SameFraction (pick_at i other) y → Takes a k ss aim run i x other → Takes a k ss aim run i y other
+    with_value other x y e t = record { aimed = t.aimed; same_history = t.same_history; same_numbers = t.same_numbers; value = e }
 
-    same : (x y : Fraction) → IsFraction x → IsFraction y → SameFraction x y → IsLeft a k ss run i x → IsLeft a k ss run i y
+    same : (x y : Fraction) → IsFraction x → IsFraction y → SameFraction x y → IsLeft a k ss aim run i x → IsLeft a k ss aim run i y
     same x y hx hy e (other, t) =
         (other, with_value other x y (same-trans (pick_at i other) x y (fraction_at (picked other) i (known other x t).0) hx hy t.value e) t)
 
-    strictly : (x y z : Fraction) (r s : Run) → IsFraction y → Takes a k ss run i x r → Takes a k ss run i z s → Below (pick_at i r) y → Below y (pick_at i s) → IsLeft a k ss run i y
+    strictly : (x y z : Fraction) (r s : Run) → IsFraction y → Takes a k ss aim run i x r → Takes a k ss aim run i z s → Below (pick_at i r) y → Below y (pick_at i s) → IsLeft a k ss aim run i y
     strictly x y z r s hy t u lo hi_ =
         let p : Fraction = pick_at i r in
         let q : Fraction = pick_at i s in
@@ -245,12 +241,12 @@ left_interval a k ss run i wf alarm hi = record { same = same; between = between
         let hw : pos 0 <ℤ w = product_positive (q.num *ℤ y.den -ℤ y.num *ℤ q.den) p.den (omega (arith, ints, hi_)) hp in
         let hm : pos 0 <ℤ m = product_positive (y.num *ℤ p.den -ℤ p.num *ℤ y.den) q.den (omega (arith, ints, lo)) hq in
         let history : history_of r ≡ history_of s = t.same_history ∙ sym u.same_history in
-        let n = picked_numbers a w m r s (runs_alike a k ss r s history t.alarm u.alarm) in
+        let n = picked_numbers a w m r s (runs_alike a k ss r s history t.aimed.run_of u.aimed.run_of) in
         let fits : i < length (picked r) = subst (λ l. i < l) (sym (known r x t).1) hi in
         let value : pick_at i (mixed_run w m r s) ≡ mid w m p q = ap (λ ns. get_or ns i zero_fraction) n.mix ∙ mids-at w m (picked r) (picked s) i n.long fits in (
           mixed_run w m r s,
           record {
-            alarm = alarm-mixed a k w m ss r s (record { first = hw; second = hm; locations = wf.each_location }) history t.alarm u.alarm;
+            aimed = aimed-mixed a k w m ss aim r s (record { first = hw; second = hm; locations = wf.each_location }) history t.aimed u.aimed;
             same_history = history-mixed w m r s history ∙ t.same_history;
             same_numbers = subst (λ ns. AllZip SameFraction (take i ns) (take i (picked run))) (sym n.mix)
                 (same-mids w m i (picked r) (picked s) (picked run) hw hm n.first n.second run_fractions t.same_numbers u.same_numbers);
@@ -259,9 +255,9 @@ left_interval a k ss run i wf alarm hi = record { same = same; between = between
         )
       where
         run_fractions : AllFractions (picked run)
-        run_fractions = (picked_numbers a (pos 1) (pos 1) run run (runs_alike a k ss run run refl alarm alarm)).first
+        run_fractions = (picked_numbers a (pos 1) (pos 1) run run (runs_alike a k ss run run refl aimed.run_of aimed.run_of)).first
 
-    between : (x y z : Fraction) → IsFraction x → IsFraction y → IsFraction z → AtMost x y → AtMost y z → IsLeft a k ss run i x → IsLeft a k ss run i z → IsLeft a k ss run i y
+    between : (x y z : Fraction) → IsFraction x → IsFraction y → IsFraction z → AtMost x y → AtMost y z → IsLeft a k ss aim run i x → IsLeft a k ss aim run i z → IsLeft a k ss aim run i y
     between x y z hx hy hz xy yz (r, t) (s, u) =
         let p : Fraction = pick_at i r in
         let q : Fraction = pick_at i s in

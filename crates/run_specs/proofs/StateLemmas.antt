@@ -1,25 +1,29 @@
 -- The states of a session: where runs of its log end, in the order of their histories.
 use Rattle.std.proofs.Common.{◌≡◌, ◌⊎◌, ◌↔◌, inl, inr, ℕ, zero, suc, ◌<◌, ◌≤◌, Bool, true, false, List, [], ◌∷◌, ◌++◌, append_assoc, append-nil, length, take, Option, Some, None, refl, sym, ◌∙◌, ap, subst, arith, pos, ◌<ℤ◌}
-use Rattle.std.specs.Prelude.{All, IsTrue, IsFalse, slice_index_or}
+use Rattle.std.specs.Prelude.{All, IsTrue, slice_index_or}
 use Rattle.std.proofs.lemmas.List.{length-take-le}
 use Rattle.std.proofs.lemmas.List.Elements.{All-head, All-tail}
 use Rattle.std.proofs.lemmas.List.Folds.{Any-from_list_any, list_any-from_Any}
+use Rattle.poly_specs.proofs.EliminationLemmas.{AllHold-from_in}
+use Rattle.run_specs.proofs.StageLemmas.{holds_both}
 use Rattle.run_specs.proofs.SessionLemmas.{last_from, entries_few}
 use Rattle.run_specs.proofs.RunEndLemmas.{all_same, marked, IsAt, run_inside, IsKeyOf, last_from-append, key_of}
+use Rattle.run_specs.proofs.AimLemmas.{some_gap, last_of}
 use Rattle.run_specs.proofs.StateHistoryLemmas.{rise_at, Stands, AreFollowed, opening_are, items_are}
 use Rattle.poly_specs.specs.Fractions.{Fraction, IsFraction, zero_fraction}
-use Rattle.poly_specs.specs.Rows.{Point, AllHold}
+use Rattle.poly_specs.specs.Rows.{Point, Row, AllHold}
 use Rattle.run_specs.specs.Automaton.{Automaton, width, location_at}
 use Rattle.run_specs.specs.Logs.{Sample, IsSample}
-use Rattle.run_specs.specs.Runs.{Run, IsRun, VisitsUnsafe, path_of, goes_unsafe}
+use Rattle.run_specs.specs.Runs.{Place, Run, IsRun, VisitsUnsafe, path_of, end_point, goes_unsafe}
 use Rattle.run_specs.specs.Histories.{History, history_of, IsEarlier}
+use Rattle.run_specs.specs.Aims.{Aim, EndsWhere, IsAimedRun, to_alarm}
 use Rattle.run_specs.specs.FirstRun.{IsFirstRun}
 use Rattle.run_specs.specs.Keys.{State, Key, no_state}
 use Rattle.run_specs.specs.Outcomes.{Item, Outcome, Next, Passed, AreExact, IsExact}
 use Rattle.run_specs.specs.Openings.{IsOpening}
 use Rattle.run_specs.specs.SessionHistories.{Entry, SessionHistory, AreLinked, states, states_left, opening_states, belief_after, has_passed}
 use Rattle.run_specs.specs.Sessions.{MonitorSession, IsMonitorSession, AreEntriesOf}
-use Rattle.run_specs.specs.StateHistories.{no_history, opening_histories, item_histories, histories_left, histories_after, states_at, histories_at, state_at, history_at, HistoriesRise, run_end, EndsRun, HasMarksOf, EndsInState, IsOfFirstMarked, IsNoLater}
+use Rattle.run_specs.specs.StateHistories.{no_history, opening_histories, item_histories, histories_left, histories_after, states_at, histories_at, state_at, history_at, HistoriesRise, run_end, EndsRun, HasMarksOf, EndsInState, CanMeet, IsOfFirstState, IsNoLater}
 
 -- ---- entries
 
@@ -133,39 +137,71 @@ run_of_state a k log belief hs f j h =
     let (q, at, holds) = x.some_point in
     let (run, e) = x.ends q at holds in (run, record { run_of = e.run_of; along = e.along; mark = x.mark run e.run_of e.along })
 
--- a marked state has no earlier history than the first run, and the first run's state has its history
-marked_later : (a : Automaton) (k : ℕ) (log : List Sample) (belief : List State) (hs : List History) → AreFollowed a k log belief hs → (first : Run) → IsFirstRun a k log first →
-    (j : ℕ) → j < length belief → IsTrue (slice_index_or belief j no_state).seen_unsafe → IsEarlier (slice_index_or hs j no_history) (history_of first) → ⊥
-marked_later a k log belief hs f first is j h t e =
-    let (run, r) = run_of_state a k log belief hs f j h in
-    is.earliest run (record { run_of = r.run_of; visits = (mark_visits a run (slice_index_or belief j no_state).seen_unsafe r.mark).0 t }) (subst (λ x. IsEarlier x (history_of first)) (sym r.along) e)
+-- the rows hold at the last values of a run of a log of at least one sample exactly where they hold at its end
+ends_end : (a : Automaton) (k : ℕ) (log : List Sample) (run : Run) (rows : List Row) → 0 < length log → IsRun a k log run → EndsWhere rows run.gaps ↔ AllHold rows (run_end a run).point
+ends_end a k log run rows h r =
+    let (g, l) = last_of a k run.start zero_fraction log run.gaps (some_gap a k run.start zero_fraction log run.gaps (λ e. omega (arith, ap length e, h)) r.follows) r.follows in
+    let last : end_point g ≡ (run_end a run).point = sym (ap (λ (p : Place). p.point) (l.place run.start)) in
+    subst (λ q. EndsWhere rows run.gaps ↔ AllHold rows q) last (l.ends rows)
 
--- state number j is the first that is marked, and the run has its history
-pub record IsFirstMarked (belief : List State) (hs : List History) (run : Run) (j : ℕ) : Type 0 where
+-- where state number j can meet the aim, a run along its history does
+run_meets : (a : Automaton) (k : ℕ) (log : List Sample) (belief : List State) (hs : List History) (aim : Aim) → AreFollowed a k log belief hs → 0 < length log → (j : ℕ) → j < length belief →
+    CanMeet (width a) aim (slice_index_or belief j no_state) → (run : Run) × IsAimedRun a k log aim run × (history_of run ≡ slice_index_or hs j no_history)
+run_meets a k log belief hs aim f some j h can =
+    let x = f.each j h in
+    let state : State = slice_index_or belief j no_state in
+    let (q, positive, sized, holds) = can.some_point in
+    let both = (holds_both state.rows aim.rows q).0 holds in
+    let (run, e) = x.ends q (record { positive = positive; sized = sized }) both.0 in
+    let end = (run_inside a k log run some e.run_of).at in (
+      run,
+      record {
+        run_of = e.run_of;
+        meets = record {
+          visits = λ t. (mark_visits a run state.seen_unsafe (x.mark run e.run_of e.along)).0 (can.marked t);
+          ends = (ends_end a k log run aim.rows some e.run_of).1 (all_same aim.rows q (run_end a run).point positive end.positive (sym e.ends) both.1);
+        };
+      },
+      e.along,
+    )
+
+-- a state that can meet the aim has no earlier history than the first run, and the first run's state has its history
+meeting_later : (a : Automaton) (k : ℕ) (log : List Sample) (belief : List State) (hs : List History) (aim : Aim) → AreFollowed a k log belief hs → 0 < length log →
+    (first : Run) → IsFirstRun a k log aim first → (j : ℕ) → j < length belief → CanMeet (width a) aim (slice_index_or belief j no_state) →
+    IsEarlier (slice_index_or hs j no_history) (history_of first) → ⊥
+meeting_later a k log belief hs aim f some first is j h can e =
+    let (run, aimed, along) = run_meets a k log belief hs aim f some j h can in is.earliest run aimed (subst (λ x. IsEarlier x (history_of first)) (sym along) e)
+
+-- state number j is the first that can meet the aim, and the run has its history
+pub record IsFirstState (m : ℕ) (aim : Aim) (belief : List State) (hs : List History) (run : Run) (j : ℕ) : Type 0 where
   pub below : j < length belief
-  pub marked : IsTrue (slice_index_or belief j no_state).seen_unsafe
+  pub meets : CanMeet m aim (slice_index_or belief j no_state)
   pub along : slice_index_or hs j no_history ≡ history_of run
-  pub first : (e : ℕ) → e < j → IsFalse (slice_index_or belief e no_state).seen_unsafe
+  pub first : (e : ℕ) → e < j → CanMeet m aim (slice_index_or belief e no_state) → ⊥
 
-first_marked : (a : Automaton) (k : ℕ) (log : List Sample) (belief : List State) (hs : List History) → AreFollowed a k log belief hs → 0 < length log → (run : Run) → IsFirstRun a k log run →
-    (j : ℕ) × IsFirstMarked belief hs run j
-first_marked a k log belief hs f h run is =
-    let (j, x) = state_of_run a k log belief hs f h run is.alarm.run_of in
-    let t : IsTrue (slice_index_or belief j no_state).seen_unsafe = (mark_visits a run (slice_index_or belief j no_state).seen_unsafe x.mark).1 is.alarm.visits in
-    let along : slice_index_or hs j no_history ≡ history_of run = same j x t x.no_later in
-    (j, record { below = x.below; marked = t; along = along; first = λ e l. none e j l x.below along (slice_index_or belief e no_state).seen_unsafe refl })
+first_state : (a : Automaton) (k : ℕ) (log : List Sample) (belief : List State) (hs : List History) (aim : Aim) → AreFollowed a k log belief hs → 0 < length log →
+    (run : Run) → IsFirstRun a k log aim run → (j : ℕ) × IsFirstState (width a) aim belief hs run j
+first_state a k log belief hs aim f some run is =
+    let (j, x) = state_of_run a k log belief hs f some run is.aimed.run_of in
+    let state : State = slice_index_or belief j no_state in
+    let end = (run_inside a k log run some is.aimed.run_of).at in
+    let rows : AllHold aim.rows (run_end a run).point = (ends_end a k log run aim.rows some is.aimed.run_of).0 is.aimed.meets.ends in
+    let can : CanMeet (width a) aim state = record {
+      marked = λ t. (mark_visits a run state.seen_unsafe x.mark).1 (is.aimed.meets.visits t);
+      some_point = ((run_end a run).point, end.positive, end.sized, (holds_both state.rows aim.rows (run_end a run).point).1 (x.holds, rows));
+    } in
+    let along : slice_index_or hs j no_history ≡ history_of run = same j x.below can x.no_later in
+    (j, record { below = x.below; meets = can; along = along; first = λ e l. none e j l x.below along })
   where
-    same : (j : ℕ) → Stands a belief hs run (run_end a run).point j → IsTrue (slice_index_or belief j no_state).seen_unsafe →
+    same : (j : ℕ) → j < length belief → CanMeet (width a) aim (slice_index_or belief j no_state) →
         IsNoLater (slice_index_or hs j no_history) (history_of run) → slice_index_or hs j no_history ≡ history_of run
-    same j x t (inl e) = e
-    same j x t (inr e) = absurd (marked_later a k log belief hs f run is j x.below t e)
+    same j h can (inl e) = e
+    same j h can (inr e) = absurd (meeting_later a k log belief hs aim f some run is j h can e)
 
-    none : (e j : ℕ) → e < j → j < length belief → slice_index_or hs j no_history ≡ history_of run → (b : Bool) → (slice_index_or belief e no_state).seen_unsafe ≡ b →
-        IsFalse (slice_index_or belief e no_state).seen_unsafe
-    none e j l below along false m = m
-    none e j l below along true m =
+    none : (e j : ℕ) → e < j → j < length belief → slice_index_or hs j no_history ≡ history_of run → CanMeet (width a) aim (slice_index_or belief e no_state) → ⊥
+    none e j l below along can =
         let earlier = rise_at hs e j f.rise l (omega (arith, below, f.as_many)) in
-        absurd (marked_later a k log belief hs f run is e (omega arith) m (subst (IsEarlier (slice_index_or hs e no_history)) along earlier))
+        meeting_later a k log belief hs aim f some run is e (omega arith) can (subst (IsEarlier (slice_index_or hs e no_history)) along earlier)
 
 -- ---- the laws
 
@@ -234,11 +270,25 @@ run_state s i run is p h n r = elim (reached s i is h) [
   | inr g ↦ absurd (let t = g.passed p in let b : ⊥ = cc in b)
 ]
 
-pub first_run_state : (s : MonitorSession) (i : ℕ) (run : Run) → IsMonitorSession s → 0 < i → i ≤ length s.history.gaps → has_passed (take i s.history.gaps) ≡ false →
-    IsFirstRun s.history.automaton s.history.jumps (take i s.log) run → (j : ℕ) × IsOfFirstMarked s.history i run j
-first_run_state s i run is p h n r = elim (reached s i is h) [
+pub marked_meet : (s : MonitorSession) (i j : ℕ) → IsMonitorSession s → i ≤ length s.history.gaps → j < length (states_at s.history i) →
+    CanMeet (width s.history.automaton) to_alarm (state_at s.history i j) ↔ IsTrue (state_at s.history i j).seen_unsafe
+marked_meet s i j is h hj = elim (reached s i is h) [
   | inl f ↦ (
-      let (j, x) = first_marked s.history.automaton s.history.jumps (take i s.log) (states_at s.history i) (histories_at s.history i) f (some_sample s i is p h) run r in
-      (j, record { below = x.below; marked = x.marked; along = x.along; first = x.first }))
+      let (q, at, holds) = (f.each j hj).some_point in (
+        λ can. can.marked refl,
+        λ t. record {
+          marked = λ _. t;
+          some_point = (q, at.positive, at.sized, (holds_both (state_at s.history i j).rows [] q).1 (holds, AllHold-from_in [] q (λ r i. absurd i)));
+        },
+      ))
+  | inr n ↦ absurd (no_number s.history i j n hj)
+]
+
+pub first_run_state : (s : MonitorSession) (i : ℕ) (aim : Aim) (run : Run) → IsMonitorSession s → 0 < i → i ≤ length s.history.gaps → has_passed (take i s.history.gaps) ≡ false →
+    IsFirstRun s.history.automaton s.history.jumps (take i s.log) aim run → (j : ℕ) × IsOfFirstState s.history aim i run j
+first_run_state s i aim run is p h n r = elim (reached s i is h) [
+  | inl f ↦ (
+      let (j, x) = first_state s.history.automaton s.history.jumps (take i s.log) (states_at s.history i) (histories_at s.history i) aim f (some_sample s i is p h) run r in
+      (j, record { below = x.below; meets = x.meets; along = x.along; first = x.first }))
   | inr g ↦ absurd (let t = g.passed p in let b : ⊥ = cc in b)
 ]

@@ -8,6 +8,7 @@ pub mod Stages
 pub mod Passes
 pub mod Verdicts
 pub mod Histories
+pub mod Aims
 pub mod FirstRun
 pub mod RunPasses
 pub mod Keys

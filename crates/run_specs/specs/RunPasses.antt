@@ -1,4 +1,4 @@
--- When the first run of a log passes 128 bits.
+-- When the first run of a log that meets an aim passes 128 bits.
 use Rattle.std.specs.Prelude.{◌⊎◌, ℕ, ◌+◌, List, [], ◌∷◌, ◌++◌, map, IsSomeAnd, ℤ, pos, ◌+ℤ◌}
 use Rattle.poly_specs.specs.Lists.{In}
 use Rattle.poly_specs.specs.Fractions.{Fraction, zero_fraction, fractions, difference}
@@ -11,6 +11,7 @@ use Rattle.run_specs.specs.Logs.{Sample}
 use Rattle.run_specs.specs.Runs.{Leg, Move, GapRun, Run, path_of}
 use Rattle.run_specs.specs.Stages.{rows_after, gap_start, leg_stage, leg_rows, jump_stage, jump_rows, opening_stage, gap_rows}
 use Rattle.run_specs.specs.Passes.{LogPasses, history_rows}
+use Rattle.run_specs.specs.Aims.{Aim}
 use Rattle.run_specs.specs.FirstRun.{IsFirstRun, backwards, last_values}
 
 -- ---- the pickings of a run
@@ -46,23 +47,27 @@ gaps_pickings a t (s ∷ ss) rows (g ∷ gs) =
     path_pickings a g.den g.start_loc (pos 0) (gap_start (width a) rows) g.start g.moves g.last
     ++ gaps_pickings a s.time ss (gap_rows a g.start_loc (path_of g) (difference s.time t) s.cells rows) gs
 
--- those of the run: its last values, from the rows of the last state, and the numbers of its gaps
-abbrev pub pickings : Automaton → List Sample → Run → List Row → List Picking
-pickings a samples run init =
-    record { rows = history_rows a samples run.start.loc (map path_of run.gaps) init; first = 0; numbers = last_values run.gaps }
+-- those of the run: its last values, from the rows of the last state and then these rows, and the numbers of its gaps
+abbrev pub pickings : Automaton → List Sample → Run → List Row → List Row → List Picking
+pickings a samples run init rows =
+    record {
+      rows = history_rows a samples run.start.loc (map path_of run.gaps) init ++ rows;
+      first = 0;
+      numbers = last_values run.gaps;
+    }
     ∷ gaps_pickings a zero_fraction samples (rows_after (opening_stage a run.start.loc init)) run.gaps
 
 -- the numbers of a gap run, as fractions
 abbrev pub gap_numbers : GapRun → List Fraction
 gap_numbers g = fractions g.den (g.last.at_end ++ backwards g.start g.moves g.last)
 
--- picking a number of this first run passes, or writing one of its gaps over its least denominator
-abbrev pub FirstRunPasses : Automaton → List Sample → Run → Type 0
-FirstRunPasses a samples run =
-    IsSomeAnd (location_at a run.start.loc).init (λ init. (p : Picking) × In p (pickings a samples run init) × PickPasses p)
+-- picking a number of the first run that meets the aim passes, or writing one of its gaps over its least denominator
+abbrev pub FirstRunPasses : Automaton → List Sample → Aim → Run → Type 0
+FirstRunPasses a samples aim run =
+    IsSomeAnd (location_at a run.start.loc).init (λ init. (p : Picking) × In p (pickings a samples run init aim.rows) × PickPasses p)
     ⊎ ((g : GapRun) × In g run.gaps × SomePasses (common_numbers (gap_numbers g)))
 
--- the log passes, or its first run does
-abbrev pub RunPasses : Automaton → ℕ → List Sample → Type 0
-RunPasses a k samples =
-    LogPasses a k samples ⊎ ((run : Run) × IsFirstRun a k samples run × FirstRunPasses a samples run)
+-- the log passes, or the first run that meets the aim does
+abbrev pub RunPasses : Automaton → ℕ → List Sample → Aim → Type 0
+RunPasses a k samples aim =
+    LogPasses a k samples ⊎ ((run : Run) × IsFirstRun a k samples aim run × FirstRunPasses a samples aim run)

@@ -1,10 +1,11 @@
 -- The histories of a session's states: along which paths the runs come that end in each.
-use Rattle.std.specs.Prelude.{◌≡◌, ◌⊎◌, ◌↔◌, ℕ, ◌<◌, IsTrue, IsFalse, List, [], ◌∷◌, ◌++◌, map, length, take, slice_index_or, ⊤}
-use Rattle.poly_specs.specs.Rows.{Point, SamePoint, AllHold}
-use Rattle.run_specs.specs.Automaton.{Automaton}
+use Rattle.std.specs.Prelude.{◌≡◌, ◌⊎◌, ◌↔◌, ℕ, ◌<◌, IsTrue, List, [], ◌∷◌, ◌++◌, map, length, take, slice_index_or, ⊤}
+use Rattle.poly_specs.specs.Rows.{Point, HasPoint, SamePoint, AllHold}
+use Rattle.run_specs.specs.Automaton.{Automaton, width}
 use Rattle.run_specs.specs.Logs.{Sample}
 use Rattle.run_specs.specs.Runs.{GapRun, Place, Run, IsRun, VisitsUnsafe, end_of}
 use Rattle.run_specs.specs.Histories.{History, history_of, IsEarlier}
+use Rattle.run_specs.specs.Aims.{Aim}
 use Rattle.run_specs.specs.Keys.{State, no_state}
 use Rattle.run_specs.specs.Outcomes.{Item, Outcome, Next, Passed}
 use Rattle.run_specs.specs.SessionHistories.{Entry, SessionHistory, opening_states, belief_after}
@@ -100,9 +101,14 @@ pub record EndsInState (h : SessionHistory) (i : ℕ) (run : Run) (j : ℕ) : Ty
   pub holds : AllHold (state_at h i j).rows (run_end h.automaton run).point
   pub no_later : IsNoLater (history_at h i j) (history_of run)
 
--- of the states after i gaps, number j is the first that is marked, and the run has its history
-pub record IsOfFirstMarked (h : SessionHistory) (i : ℕ) (run : Run) (j : ℕ) : Type 0 where
+-- the state can meet the aim: it is marked if the aim is an alarm, and some point of it meets the aim's rows
+pub record CanMeet (m : ℕ) (aim : Aim) (x : State) : Type 0 where
+  pub marked : IsTrue aim.alarm → IsTrue x.seen_unsafe
+  pub some_point : HasPoint m (x.rows ++ aim.rows)
+
+-- of the states after i gaps, number j is the first that can meet the aim, and the run has its history
+pub record IsOfFirstState (h : SessionHistory) (aim : Aim) (i : ℕ) (run : Run) (j : ℕ) : Type 0 where
   pub below : j < length (states_at h i)
-  pub marked : IsTrue (state_at h i j).seen_unsafe
+  pub meets : CanMeet (width h.automaton) aim (state_at h i j)
   pub along : history_at h i j ≡ history_of run
-  pub first : (e : ℕ) → e < j → IsFalse (state_at h i e).seen_unsafe
+  pub first : (e : ℕ) → e < j → CanMeet (width h.automaton) aim (state_at h i e) → ⊥
