@@ -22,3 +22,4 @@ pub mod Things
 pub mod ExampleFaults
 pub mod AddLemmas
 pub mod LineTokens
+pub mod TextEnds

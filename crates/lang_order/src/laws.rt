@@ -44,3 +44,8 @@ pub fn spellings_by_lines()
     ensures { (text : List ℕ) (ls : List Lined) (ss : List Numbered) (last : ℕ) → AreReadLines ls ss places.End →
         lined (text_tokens text) ≡ ls ++ text_end last → IsSpelling text (trees_of ss) }
 {}
+
+/// No text is without a spelling within all limits and also without a first fault.
+pub fn each_text_has_an_end()
+    ensures { (text : List ℕ) → ((trees : List Tree) → IsSpelling text trees → ⊥) → ((fault : Fault) → IsFirstFault text fault → ⊥) → ⊥ }
+{}

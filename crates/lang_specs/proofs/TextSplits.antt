@@ -289,7 +289,7 @@ start_same n m a b rest after e =
       rests = tail_is (record { line = n; mark = the kinds.EndLine }) (record { line = m; mark = the kinds.EndLine }) rest after two;
     }
 
-one_spelled : (ls : List Lined) (trees others : List Tree) → Spell ls trees → Spell ls others → LinesRead ls → trees ≡ others
+pub one_spelled : (ls : List Lined) (trees others : List Tree) → Spell ls trees → Spell ls others → LinesRead ls → trees ≡ others
 one_spelled ls trees others (a, n, i, rest, p, some, h) (b, m, j, after, q, also_some, k) read =
     let whole : first_line n a ++ (rest ++ text_end i) ≡ first_line m b ++ (after ++ text_end j) =
     sym (append_assoc (first_line n a) rest (text_end i)) ∙ sym p ∙ q ∙ append_assoc (first_line m b) after (text_end j) in
@@ -301,7 +301,7 @@ one_spelled ls trees others (a, n, i, rest, p, some, h) (b, m, j, after, q, also
 
 -- ---- literals that are read
 
-all_read : (ls : List Lined) → list_all (λ l. has_few_digits l.mark.kind l.mark.text) ls ≡ true → LinesRead ls
+pub all_read : (ls : List Lined) → list_all (λ l. has_few_digits l.mark.kind l.mark.text) ls ≡ true → LinesRead ls
 all_read [] h = tt
 all_read (l ∷ ls) h =
     let first = has_few_digits l.mark.kind l.mark.text in

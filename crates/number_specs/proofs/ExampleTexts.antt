@@ -18,6 +18,13 @@ pub no_numbers : (read_number (codes "1e15") ≡ Err Range) × (read_number (cod
     × (read_number (codes "0e00001") ≡ Err Form) × (read_number (codes ".") ≡ Err Form) × (read_number [] ≡ Err Form)
 no_numbers = (refl, refl, refl, refl, refl, refl)
 
+pub decimals : (read_number (codes "0.123456789012345679") ≡ Ok (record { num = pos 123456789012345679; den = pos 1000000000000000000 }))
+    × (read_number (codes "0.1234567890123456785") ≡ Err Range) × (read_number (codes "0.0000000000000000001") ≡ Err Range)
+    × (read_number (codes "0.1234567890123456790") ≡ Ok (record { num = pos 123456789012345679; den = pos 1000000000000000000 }))
+    × (read_number (codes "-1234567890123456.79e-16") ≡ Ok (record { num = negsuc 123456789012345678; den = pos 1000000000000000000 }))
+unfolding gcd
+decimals = (refl, refl, refl, refl, refl)
+
 pub literals : (read_literal (codes "007") ≡ Ok (record { num = pos 7; den = pos 1 }))
     × (read_literal (codes "6/4") ≡ Ok (record { num = pos 3; den = pos 2 }))
     × (read_literal (codes "1.50") ≡ Ok (record { num = pos 3; den = pos 2 }))

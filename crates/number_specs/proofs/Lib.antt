@@ -3,3 +3,5 @@ pub mod NumeralLemmas
 pub mod LiteralLemmas
 pub mod TextLemmas
 pub mod ExampleTexts
+pub mod FormLemmas
+pub mod ScanLemmas

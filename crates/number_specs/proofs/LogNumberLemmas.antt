@@ -24,7 +24,7 @@ either_bottom : (b : Bool) (x y : Decimal) → 0 < x.bottom → 0 < y.bottom →
 either_bottom true x y h k z e = subst (λ (d : Decimal). 0 < d.bottom) (sym e) h
 either_bottom false x y h k z e = subst (λ (d : Decimal). 0 < d.bottom) (sym e) k
 
-moved_bottom : (negative : Bool) (d : Digits) (e : Exponent) → 0 < (moved negative d e).bottom
+pub moved_bottom : (negative : Bool) (d : Digits) (e : Exponent) → 0 < (moved negative d e).bottom
 moved_bottom negative d e =
     either_bottom e.is_negative
     (record { is_negative = negative; top = d.value; bottom = 10 ^ (d.after_point + e.size) })
@@ -54,15 +54,15 @@ decimal_bottom (b ∷ bytes) =
 
 -- ---- its value
 
-signed_size : (negative : Bool) (n : ℕ) → unsigned_abs (signed negative n) ≡ n
+pub signed_size : (negative : Bool) (n : ℕ) → unsigned_abs (signed negative n) ≡ n
 signed_size true zero = refl
 signed_size true (suc n) = refl
 signed_size false n = refl
 
-size_of : (g : ℕ) (t z : ℤ) → pos g *ℤ t ≡ z → g * unsigned_abs t ≡ unsigned_abs z
+pub size_of : (g : ℕ) (t z : ℤ) → pos g *ℤ t ≡ z → g * unsigned_abs t ≡ unsigned_abs z
 size_of g t z e = sym (unsigned_abs-mul (pos g) t) ∙ ap unsigned_abs e
 
-turned : (m g d : ℕ) → m * (g * d) ≡ g * (m * d)
+pub turned : (m g d : ℕ) → m * (g * d) ≡ g * (m * d)
 turned m g d = omega arith
 
 scaled_less : (g n d m top bottom : ℕ) → g * n ≡ top → g * d ≡ bottom → top < m * bottom → g * n < g * (m * d)

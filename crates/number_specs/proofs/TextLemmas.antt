@@ -22,10 +22,10 @@ use Rattle.number_specs.specs.declared.NumFault.TheVariants.{Range}
 -- ---- a whole number in a log
 
 -- digits without a point
-abbrev whole_digits : ℕ → ℕ → Digits
+abbrev pub whole_digits : ℕ → ℕ → Digits
 whole_digits v c = record { value = v; count = c; has_point = false; after_point = 0 }
 
-mantissa-append : (ds : List ℕ) (v c : ℕ) (rest : List ℕ) → AllDigits 10 ds →
+pub mantissa-append : (ds : List ℕ) (v c : ℕ) (rest : List ℕ) → AllDigits 10 ds →
     mantissa_from (whole_digits v c) (ds ++ rest) ≡ mantissa_from (whole_digits (digits_value_after 10 v ds) (c + length ds)) rest
 mantissa-append [] v c rest h = ap (λ k. mantissa_from (whole_digits v k) rest) (omega arith)
 mantissa-append (b ∷ ds) v c rest h =

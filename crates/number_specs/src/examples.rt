@@ -20,6 +20,14 @@ pub fn no_numbers()
         × (read_number (codes "0e00001") ≡ Err Form) × (read_number (codes ".") ≡ Err Form) × (read_number [] ≡ Err Form) }
 {}
 
+/// Eighteen decimals are read, and a nineteenth only where it is 0.
+pub fn eighteen_decimals()
+    ensures { (read_number (codes "0.123456789012345679") ≡ Ok (record { num = pos 123456789012345679; den = pos 1000000000000000000 }))
+        × (read_number (codes "0.1234567890123456785") ≡ Err Range) × (read_number (codes "0.0000000000000000001") ≡ Err Range)
+        × (read_number (codes "0.1234567890123456790") ≡ Ok (record { num = pos 123456789012345679; den = pos 1000000000000000000 }))
+        × (read_number (codes "-1234567890123456.79e-16") ≡ Ok (record { num = negsuc 123456789012345678; den = pos 1000000000000000000 })) }
+{}
+
 /// Literals of a model: whole, divided, with a point.
 pub fn some_literals()
     ensures { (read_literal (codes "007") ≡ Ok (record { num = pos 7; den = pos 1 }))
