@@ -1,15 +1,15 @@
 #!/bin/sh
-# Times `reading_bench` on one processor: a log of 1,000 short rows is read and parsed a thousand times. What counts is the time of the
+# Times `speed_bench reading` on one processor: a log of 1,000 short rows is read and parsed a thousand times. What counts is the time of the
 # processor, and not that of the clock, so that other work on the machine does not.
 set -eu
 here=$(CDPATH='' cd -- "$(dirname -- "$0")/.." && pwd)
-crate=$here/crates/reading_bench
+crate=$here/crates/speed_bench
 rows=1000000
 
-"$here/bench/build.sh" reading_bench
+"$here/bench/build.sh" speed_bench
 
 # The last line of `times` has the minutes and seconds of the program, and of the system for it.
-told=$("$crate/out/reading_bench" && times)
+told=$("$crate/out/speed_bench" reading && times)
 printf '%s\n' "$told" | awk -v rows="$rows" '
     NR == 1 { print }
     { split($1 $2, parts, "[ms]") }

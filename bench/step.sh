@@ -1,15 +1,15 @@
 #!/bin/sh
-# Times `step_bench` on one processor: one gap of a model of two locations is taken ten thousand times. What counts is the time of the
+# Times `speed_bench step` on one processor: one gap of a model of two locations is taken ten thousand times. What counts is the time of the
 # processor, and not that of the clock, so that other work on the machine does not.
 set -eu
 here=$(CDPATH='' cd -- "$(dirname -- "$0")/.." && pwd)
-crate=$here/crates/step_bench
+crate=$here/crates/speed_bench
 rounds=10000
 
-"$here/bench/build.sh" step_bench
+"$here/bench/build.sh" speed_bench
 
 # The last line of `times` has the minutes and seconds of the program, and of the system for it.
-told=$("$crate/out/step_bench" && times)
+told=$("$crate/out/speed_bench" step && times)
 printf '%s\n' "$told" | awk -v rounds="$rounds" '
     NR == 1 { print }
     { split($1 $2, parts, "[ms]") }

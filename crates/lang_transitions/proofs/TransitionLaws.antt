@@ -19,7 +19,7 @@ use Rattle.lang_tokens.proofs.LimitLemmas.{both_so, last_same, ArePlain, plain_k
 use Rattle.lang_tokens.proofs.LineLaws.{LineLaws, reads_start, reads_run, line_fault, line_within}
 use Rattle.lang_tokens.proofs.Walks.{both, IsClean, is_the, is_a_name, if_some, walk, and_walk, walk_on, walk_more, walk_step}
 use Rattle.lang_rows.specs.RowMachine.{row_limits}
-use Rattle.lang_acts.specs.ActMachine.{act_limits}
+use Rattle.lang_transitions.specs.ActMachine.{act_limits}
 use Rattle.lang_transitions.specs.TransitionMachine.{IsTransition, transition_limits, Names, State, at_from, at_arrow, at_to, at_as, at_label, behind_label, has_ended, in_guard, in_acts, names, in_guard_if, begins_acts, in_acts_if, next_state, guard_fits, fits_so, transitions, names_of, GuardSays, Says}
 
 -- the names of a transition, with the signs between

@@ -15,9 +15,9 @@ use Rattle.lang_rows.specs.RowMachine as rows
 use Rattle.lang_rows.specs.RowMachine.{row_line, Ends}
 use Rattle.lang_rows.proofs.RowLimits.{free}
 use Rattle.lang_rows.proofs.StateLaws as guards
-use Rattle.lang_acts.specs.ActMachine.{acts, act_limits}
-use Rattle.lang_acts.proofs.ActLine.{SaidActs, act_line_laws, acts_said}
-use Rattle.lang_acts.proofs.ActLimits.{limit_laws}
+use Rattle.lang_transitions.specs.ActMachine.{acts, act_limits}
+use Rattle.lang_transitions.proofs.ActLine.{SaidActs, act_line_laws, acts_said}
+use Rattle.lang_transitions.proofs.ActLimits.{limit_laws}
 use Rattle.lang_transitions.specs.TransitionMachine.{IsTransition, transition_limits, at_from, at_arrow, at_to, at_as, at_label, behind_label, has_ended, in_guard, in_acts, Says}
 use Rattle.lang_transitions.specs.Views.{Acts, State, transition, ActsEnd}
 use Rattle.lang_transitions.proofs.GuardEnds.{no_set, end_stops}

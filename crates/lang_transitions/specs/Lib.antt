@@ -1,2 +1,4 @@
+pub mod ActMachine
+pub mod ActViews
 pub mod TransitionMachine
 pub mod Views

@@ -6,8 +6,8 @@ use Rattle.lang_specs.specs.Trees.{Act}
 use Rattle.lang_tokens.specs.Machines.{LineMachine, Reading, AllValues, listed}
 use Rattle.lang_rows.specs.RowMachine as rows
 use Rattle.lang_rows.specs.Views as guards
-use Rattle.lang_acts.specs.ActMachine as acts
-use Rattle.lang_acts.specs.Views.{reading_of, KnowsFew}
+use Rattle.lang_transitions.specs.ActMachine as acts
+use Rattle.lang_transitions.specs.ActViews.{reading_of, KnowsFew}
 use Rattle.lang_transitions.specs.declared.transitions.NamesText.{NamesText}
 use Rattle.lang_transitions.specs.declared.transitions.TransitionReader.{TransitionReader}
 use Rattle.lang_transitions.specs.declared.transitions.TransitionReader.TheVariants as readers

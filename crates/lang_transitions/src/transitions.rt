@@ -11,13 +11,13 @@ ghost use Rattle.lang_tokens.specs.Machines.{start_of, next, step, run};
 ghost use Rattle.lang_tokens.specs.Gives.{Advances, GivesAt, Gives};
 ghost use Rattle.lang_rows.specs.RowMachine.{at_first, Ends};
 ghost use Rattle.lang_rows.specs.Views as guards;
-ghost use Rattle.lang_acts.specs.ActMachine as the_acts;
-ghost use Rattle.lang_acts.specs.Views.{reading_of, KnowsFew};
+ghost use Rattle.lang_transitions.specs.ActMachine as the_acts;
+ghost use Rattle.lang_transitions.specs.ActViews.{reading_of, KnowsFew};
 ghost use Rattle.lang_transitions.specs.TransitionMachine as machine;
 ghost use Rattle.lang_transitions.specs.TransitionMachine.{IsTransition, transition_limits, GuardSays, Says};
 ghost use Rattle.lang_transitions.specs.Views.{transition, has_room, ActsEnd, names_of, state_of, Knows};
 
-use lang_acts::{ActReader, act_trees, fresh_reader, has_few_terms};
+use crate::acts::{ActReader, act_trees, fresh_reader, has_few_terms};
 use lang_rows::rows;
 use lang_rows::rows::{Room, RowsReader};
 use lang_specs::Kind;
@@ -124,7 +124,7 @@ fn in_acts<'a>(
     ensures next { Advances state_of (placed_of 0 token.entry) result (machine.in_acts_if (names_of names.entry) (option_map guards.state_of guard.entry) (next the_acts.acts (reading_of acts.entry) (mark (placed_of 0 token.entry)))) }
     ensures few { IfOk result Knows }
 {
-    let acts = lang_acts::advance(alloc, acts, token)?;
+    let acts = crate::acts::advance(alloc, acts, token)?;
     Ok(TransitionReader::Acts(names, guard, acts))
 }
 

@@ -2,6 +2,7 @@
 #![tactic(auto)]
 
 mod calls;
+mod gate;
 mod memory;
 mod memory_shelf;
 mod shelf;
@@ -10,6 +11,7 @@ mod source;
 mod standard;
 mod sure;
 
+pub use gate::{Gate, NoGate};
 pub use memory::{MemSink, MemSource};
 pub use memory_shelf::MemShelf;
 pub use shelf::{Shelf, ShelfFault};

@@ -1,5 +1,5 @@
 // A source, a sink and a shelf over the readers, writers and files of std.
-ghost use Rattle.std.specs.Prelude.{◌≡◌, ◌<◌, ◌≤◌, ℕ, List, None, length, take, vec_len, IfOk, IfSome, IsNone, OnErr, IsErrOf, Err};
+ghost use Rattle.std.specs.Prelude.{◌≡◌, ◌≢◌, ◌<◌, ◌≤◌, ℕ, List, None, Some, length, take, vec_len, IfOk, IfSome, IsNone, OnErr, IsErrOf, Ok, Err, MatchResult};
 ghost use Rattle.std.specs.Io.{ReadsAtMost, WritesAtMost};
 ghost use Rattle.std.specs.Io.KnownBytes.{ReadConsumes, WriteAppends, Appends};
 ghost use Rattle.mon_io.specs.Faults.{Rose, one_more, CountsErr};
@@ -133,28 +133,50 @@ impl<'a, R: Files> Shelf for FileShelf<'a, R> {
         ensures counted { let faults = ⟦<Self as Shelf>⟧.faults in IsErrOf result ShelfFault.Failed → faults self.new ≡ one_more (faults self.old) }
         ensures kept { let faults = ⟦<Self as Shelf>⟧.faults in ¬ IsErrOf result ShelfFault.Failed → faults self.new ≡ faults self.old }
     {
-        match open_and_read(self.rt, alloc, name, most) {
-            Ok(Some(bytes)) => Ok(bytes),
-            Ok(None) => Err(ShelfFault::Long),
-            Err(error) if error.kind() == ErrorKind::OutOfMemory => Err(ShelfFault::Memory),
-            Err(_) => {
-                self.faults = self.faults.saturating_add(1);
-                Err(ShelfFault::Failed)
-            }
+        let result = text_of(File::open(self.rt, name), alloc, most);
+        if let Err(ShelfFault::Failed) = &result {
+            self.faults = self.faults.saturating_add(1);
         }
+        result
     }
 }
 
-fn open_and_read<R: Files>(
-    rt: &R,
+// The whole text of a reader that was opened, if it gives no more than `most` bytes.
+fn text_of<F: Read + Drop>(
+    opened: io::Result<F>,
     alloc: Global,
-    name: &str,
     most: usize,
-) -> io::Result<Option<Vec<u8>>>
-    ensures most { IfOk result (λ text. IfSome text (λ bytes. vec_len bytes ≤ most)) }
+) -> Result<Vec<u8>, ShelfFault>
+    ensures most { IfOk result (λ text. vec_len text ≤ most) }
+    ensures whole { IfOk result (λ text. MatchResult opened (λ reader. IfSome (F.remaining reader) (λ all. text.items ≡ all)) (λ _. ⊥)) }
+    ensures long { IsErrOf result ShelfFault.Long → MatchResult opened (λ reader. IfSome (F.remaining reader) (λ all. most < length all)) (λ _. ⊥) }
 {
-    let file = File::open(rt, name)?;
-    read_whole(file, alloc, most)
+    match opened {
+        Ok(reader) => text_read(read_whole(reader, alloc, most)),
+        Err(error) => Err(fault_of(&error)),
+    }
+}
+
+// The text that was read, or why there is none.
+fn text_read(read: io::Result<Option<Vec<u8>>>) -> Result<Vec<u8>, ShelfFault>
+    ensures ok { IfOk result (λ text. read ≡ Ok (Some text)) }
+    ensures long { IsErrOf result ShelfFault.Long → read ≡ Ok None }
+{
+    match read {
+        Ok(Some(bytes)) => Ok(bytes),
+        Ok(None) => Err(ShelfFault::Long),
+        Err(error) => Err(fault_of(&error)),
+    }
+}
+
+// What an error of the system is: want of memory, or a failure.
+fn fault_of(error: &io::Error) -> ShelfFault
+    ensures { result ≢ ShelfFault.Long }
+{
+    match error.kind() {
+        ErrorKind::OutOfMemory => ShelfFault::Memory,
+        _ => ShelfFault::Failed,
+    }
 }
 
 // All that the reader gives, or `None` where that is more than `most` bytes.

@@ -9,9 +9,8 @@ ghost use Rattle.replay_specs.specs.RunChecks.{GapAnswers, StopsAt, HasCount, Is
 
 use crate::gaps::check_gap;
 use crate::paths::visits_unsafe;
-use lha_model::{Automaton, Log};
+use lha_model::{Automaton, Log, Run};
 use replay_specs::checks::Stop;
-use run_record::Run;
 
 /// What the check of a run found.
 #[derive(Clone, Copy, Debug, PartialEq, Eq)]

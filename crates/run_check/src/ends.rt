@@ -13,9 +13,8 @@ ghost use Rattle.replay_specs.specs.RunChecks.{Answers, sums_from, length_steps,
 
 use crate::numbers::{is_at_most, is_same, kept_sum};
 use frac128::Frac;
-use lha_model::{Automaton, Sample};
+use lha_model::{Automaton, GapRun, Sample};
 use replay_specs::checks::Stop;
-use run_record::GapRun;
 
 /// The sum of the lengths of the gap's legs; `None` where a partial sum passes.
 fn total_length(gap: &GapRun) -> Option<i128>

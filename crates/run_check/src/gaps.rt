@@ -15,9 +15,8 @@ use crate::paths::{end_location, path_holds};
 use crate::places::location;
 use crate::rows::rows_hold;
 use frac128::Frac;
-use lha_model::{Automaton, Log};
+use lha_model::{Automaton, GapRun, Log, Move, Run};
 use replay_specs::checks::Stop;
-use run_record::{GapRun, Move, Run};
 
 /// Whether the move has as many values as variables, and a transition of the automaton.
 fn is_move_in_range(a: &Automaton, m: &Move) -> bool

@@ -11,10 +11,9 @@ ghost use Rattle.replay_specs.specs.RunChecks.{Answers, asks, slope_steps, leg_s
 use crate::numbers::kept_difference;
 use crate::places::{location, transition};
 use crate::rows::rows_hold;
-use lha_model::{Automaton, Loc};
+use lha_model::{Automaton, Leg, Loc, Move};
 use lin_row::Row;
 use replay_specs::checks::Stop;
-use run_record::{Leg, Move};
 use smallvec::SmallVec;
 use std::alloc::Global;
 

@@ -14,4 +14,4 @@ mod places;
 mod rows;
 
 pub use check::{RunPasses, Verified, check_run};
-pub use run_record::{GapRun, Leg, Move, Run};
+pub use lha_model::{GapRun, Leg, Move, Run};

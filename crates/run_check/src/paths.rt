@@ -7,9 +7,8 @@ ghost use Rattle.replay_specs.specs.RunChecks.{Answers, leg_steps, jump_steps, p
 
 use crate::legs::{jump_holds, leg_holds};
 use crate::places::{location, transition};
-use lha_model::Automaton;
+use lha_model::{Automaton, GapRun, Move};
 use replay_specs::checks::Stop;
-use run_record::{GapRun, Move};
 
 /// Asks that the move leads on from these values in location l.
 fn move_holds(a: &Automaton, l: u8, den: i128, from: &[i128], m: &Move) -> Result<(), Stop>

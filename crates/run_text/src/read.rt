@@ -11,7 +11,7 @@ ghost use Rattle.run_text.specs.declared.read.TextFault.TheVariants as faults;
 use crate::lines::LineFault;
 use crate::pieces::first_piece;
 use crate::states::{State, close, has_later, read_line};
-use run_record::Run;
+use lha_model::Run;
 use std::alloc::Global;
 
 /// Why a text is no text of a run; lines are counted from 1.

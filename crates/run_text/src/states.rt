@@ -11,7 +11,7 @@ ghost use Rattle.run_text.specs.declared.states.State.TheVariants as states;
 
 use crate::lines::{GapStart, LineFault, read_count, read_gap, read_jump, read_stay, read_values};
 use crate::pieces::behind;
-use run_record::{GapRun, Leg, Move};
+use lha_model::{GapRun, Leg, Move};
 use std::alloc::Global;
 
 /// The gaps that are whole, and how many there are to be in all.

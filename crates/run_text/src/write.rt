@@ -5,7 +5,7 @@ ghost use Rattle.std.specs.Fmt.{signed_decimal};
 ghost use Rattle.replay_specs.specs.RunTexts.{at_line, leg_lines, move_lines, gap_lines, run_lines, ended_lines, run_text, IsWritable};
 
 use itoa::Buffer;
-use run_record::{GapRun, Leg, Move, Run};
+use lha_model::{GapRun, Leg, Move, Run};
 use std::alloc::{AllocError, Global};
 
 /// Appends a number.

@@ -1,3 +1,0 @@
-pub mod ActLaws
-pub mod ActLimits
-pub mod ActLine

@@ -1,2 +1,0 @@
-pub mod ActMachine
-pub mod Views
