@@ -1,22 +1,10 @@
-//! Arithmetic on 128-bit integers, where a result that passes 128 bits is no result.
+//! What fractions share and lose of their numbers, and the numbers of sums and products.
 
 ghost use Rattle.std.specs.Prelude.{◌≡◌, pos, ◌<ℤ◌, ◌*ℤ◌, ◌+ℤ◌, int_div, unsigned_abs, SomeIff};
 ghost use Rattle.poly_specs.specs.Bits.{FitsBits};
 ghost use Rattle.poly_specs.specs.Elimination.{gcd};
 
-/// The greatest common divisor, by Euclid's algorithm.
-fn greatest_divisor(a: u128, b: u128) -> u128
-    ensures { result ≡ gcd a b }
-{
-    let mut x = a;
-    let mut y = b;
-    while y != 0 {
-        let rest = x % y;
-        x = y;
-        y = rest;
-    }
-    x
-}
+use checked_integers::{greatest_divisor, kept_product, kept_sum};
 
 /// The greatest common divisor of two signed numbers.
 pub fn shared_factor(a: i128, b: i128) -> i128
@@ -33,28 +21,6 @@ pub fn without_factor(number: i128, factor: i128) -> i128
     ensures { result ≡ int_div number factor }
 {
     number / factor
-}
-
-/// The product, where it does not pass 128 bits.
-fn kept_product(a: i128, b: i128) -> Option<i128>
-    ensures { SomeIff result (FitsBits (a *ℤ b)) (a *ℤ b) }
-{
-    let product = a.checked_mul(b)?;
-    if product == i128::MIN {
-        return None;
-    }
-    Some(product)
-}
-
-/// The sum, where it does not pass 128 bits.
-fn kept_sum(a: i128, b: i128) -> Option<i128>
-    ensures { SomeIff result (FitsBits (a +ℤ b)) (a +ℤ b) }
-{
-    let sum = a.checked_add(b)?;
-    if sum == i128::MIN {
-        return None;
-    }
-    Some(sum)
 }
 
 /// The numbers `a * p + c * q` and `b * p`, where none on the way to them passes 128 bits.

@@ -58,9 +58,6 @@ gcd-below a (suc b) n h g = let d = (gcd-IsGcd a (suc b)).1 in let m : gcd a (su
 pub gcd-one : (b : ℕ) → gcd 1 b ≡ 1
 gcd-one b = gcd-is 1 b 1 (dvd_refl 1, one-dvd b, λ d p q. p)
 
-pub gcd-into_one : (a : ℕ) → gcd a 1 ≡ 1
-gcd-into_one a = gcd-is a 1 1 (one-dvd a, dvd_refl 1, λ d p q. q)
-
 shared-one : (zs : List ℤ) → shared 1 zs ≡ 1
 shared-one [] = refl
 shared-one (z ∷ zs) = subst (λ g. shared g zs ≡ 1) (sym (gcd-one (unsigned_abs z))) (shared-one zs)

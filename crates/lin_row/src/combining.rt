@@ -7,10 +7,9 @@ ghost use Rattle.poly_specs.specs.Lists.{plus};
 ghost use Rattle.poly_specs.specs.Rows.{Point, Holds, coef_at};
 ghost use Rattle.lin_row.specs.Mixing.{RowsFit, mixed_numbers};
 
-use crate::numbers::{
-    all_small, greatest_divisor, is_small, narrow, narrow_sum, reduce, sum_of_two, whole_part,
-};
+use crate::numbers::{all_small, is_small, narrow, narrow_sum, reduce, sum_of_two, whole_part};
 use crate::{Passes, Row};
+use checked_integers::greatest_divisor;
 use smallvec::SmallVec;
 
 impl Row {

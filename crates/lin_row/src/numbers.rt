@@ -1,47 +1,12 @@
-//! Arithmetic on 128-bit integers, where a result that passes 128 bits is no result.
+//! Sums of products, which may pass 128 bits and are fast where the numbers are small, and division by a common divisor.
 
-ghost use Rattle.std.specs.Prelude.{◌≡◌, ◌↔◌, ◌<◌, ◌^◌, ◌/◌, ◌%◌, false, max, All, map, pos, ◌<ℤ◌, ◌*ℤ◌, ◌+ℤ◌, ◌≤◌, length, int_div, unsigned_abs, SomeIff, IsTrue};
+ghost use Rattle.std.specs.Prelude.{◌≡◌, ◌↔◌, ◌<◌, ◌^◌, ◌/◌, false, max, All, map, pos, ◌<ℤ◌, ◌*ℤ◌, ◌+ℤ◌, ◌≤◌, length, int_div, unsigned_abs, SomeIff, IsTrue};
 ghost use Rattle.poly_specs.specs.Bits.{FitsBits};
 ghost use Rattle.poly_specs.specs.Elimination.{gcd, divisor, divided};
 
+use checked_integers::{greatest_divisor, kept_product, kept_sum};
 use smallvec::SmallVec;
 use std::alloc::Global;
-
-/// Whether the number is not the least value of the type.
-fn is_kept(number: i128) -> bool
-    ensures { IsTrue result ↔ FitsBits number }
-{
-    number != i128::MIN
-}
-
-/// Whether no number is the least value of the type.
-pub fn all_kept(numbers: &[i128]) -> bool
-    ensures { IsTrue result ↔ All FitsBits numbers.now }
-{
-    numbers.iter().all(|number| is_kept(*number))
-}
-
-/// The product, where it does not pass 128 bits.
-pub fn kept_product(a: i128, b: i128) -> Option<i128>
-    ensures { SomeIff result (FitsBits (a *ℤ b)) (a *ℤ b) }
-{
-    let product = a.checked_mul(b)?;
-    if product == i128::MIN {
-        return None;
-    }
-    Some(product)
-}
-
-/// The sum, where it does not pass 128 bits.
-pub fn kept_sum(a: i128, b: i128) -> Option<i128>
-    ensures { SomeIff result (FitsBits (a +ℤ b)) (a +ℤ b) }
-{
-    let sum = a.checked_add(b)?;
-    if sum == i128::MIN {
-        return None;
-    }
-    Some(sum)
-}
 
 /// The sum with one more product, where neither passes 128 bits.
 pub fn add_product(sum: i128, a: i128, b: i128) -> Option<i128>
@@ -143,21 +108,6 @@ fn large_sum(p: i128, a: i128, q: i128, b: i128) -> Option<i128>
     kept_sum(left, right)
 }
 
-/// The remainder of a division. Most numbers are small: a division of 64 bits is fast.
-#[inline]
-fn remainder(x: u128, y: u128) -> u128
-    requires { 0 < y }
-    ensures { result ≡ x % y }
-{
-    if x < y {
-        return x;
-    }
-    if x < 0x1_0000_0000_0000_0000 {
-        return u128::from(x as u64 % y as u64);
-    }
-    x % y
-}
-
 /// The quotient of a division, fast where the numbers are small.
 #[inline]
 pub fn whole_part(x: u128, y: u128) -> u128
@@ -171,53 +121,6 @@ pub fn whole_part(x: u128, y: u128) -> u128
         return u128::from(x as u64 / y as u64);
     }
     x / y
-}
-
-/// The greatest common divisor.
-#[inline]
-pub fn greatest_divisor(a: u128, b: u128) -> u128
-    ensures { result ≡ gcd a b }
-{
-    if a < 0x1_0000_0000_0000_0000 && b < 0x1_0000_0000_0000_0000 {
-        return u128::from(small_divisor(a as u64, b as u64));
-    }
-    large_divisor(a, b)
-}
-
-/// The greatest common divisor of numbers of 64 bits, by Euclid's algorithm. It is fastest where the
-/// first one is the smaller.
-fn small_divisor(a: u64, b: u64) -> u64
-    ensures { result ≡ gcd a b }
-{
-    let mut x = b;
-    let mut y = a;
-    while y > 1 {
-        let rest = x % y;
-        x = y;
-        y = rest;
-    }
-    if y == 1 {
-        return 1;
-    }
-    x
-}
-
-/// The greatest common divisor of any numbers, by Euclid's algorithm.
-#[inline(never)]
-fn large_divisor(a: u128, b: u128) -> u128
-    ensures { result ≡ gcd a b }
-{
-    let mut x = a;
-    let mut y = b;
-    while y > 1 {
-        let rest = remainder(x, y);
-        x = y;
-        y = rest;
-    }
-    if y == 1 {
-        return 1;
-    }
-    x
 }
 
 /// The numbers, in the row's own places.

@@ -5,7 +5,7 @@ ghost use Rattle.poly_specs.specs.Rows.{over};
 ghost use Rattle.poly_specs.specs.KeptRows.{IsKeptPoint};
 
 use crate::Point;
-use crate::numbers::all_kept;
+use checked_integers::all_kept;
 
 impl Point {
     /// The point `num[0] / den`, `num[1] / den` and so on. `None` where the denominator is not

@@ -1,6 +1,6 @@
 use Rattle.std.proofs.Common.{◌≡◌}
 use Rattle.poly_specs.specs.Elimination.{gcd}
-use Rattle.lin_row.proofs.numbers.large_divisor.Given as goal
+use Rattle.checked_integers.proofs.divisors.large_divisor.Given as goal
 
 abbrev pub invariant-loop-y : goal.invariant-loop-y
 invariant-loop-y l = gcd l.x l.y ≡ gcd l.fn.a l.fn.b

@@ -1,9 +1,0 @@
-use Rattle.std.proofs.Common.{sym, ◌∙◌, arith}
-use Rattle.poly_specs.proofs.GcdLemmas.{gcd-zero, gcd-mod}
-use Rattle.frac128.proofs.numbers.greatest_divisor.Goals as goal
-
-pub loop-y-preserved : goal.loop-y-preserved
-loop-y-preserved c = gcd-mod _ _ ∙ c.loop-y.invariant
-
-pub returns : goal.returns
-returns c = sym (gcd-zero _ _ (omega arith)) ∙ c.loop-y.invariant
