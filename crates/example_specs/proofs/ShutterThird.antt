@@ -7,10 +7,6 @@ use Rattle.std.proofs.Math.Nat.{eq-one_of_dvd-one}
 use Rattle.std.proofs.lemmas.Int.{ints}
 use Rattle.std.proofs.lemmas.List.Elements.{All-from_recursion, All-head}
 use Rattle.std.proofs.lemmas.List.Folds.{list_any-from_Any}
-use Rattle.std.specs.Ordering.{nat_cmp, ordering_then}
-use Rattle.std.specs.Cmp.{nat_cmp_is}
-use Rattle.std.specs.Cmp.Lexicographic.{slice_cmp}
-use Rattle.std.specs.declared.cmp.Ordering.TheVariants.{Less, Greater}
 use Rattle.poly_specs.proofs.FractionLemmas.{same-trans}
 use Rattle.poly_specs.specs.Fractions.{Fraction, IsFraction, SameFraction, fractions, zero_fraction}
 use Rattle.poly_specs.specs.Picks.{IsPick}
@@ -18,10 +14,11 @@ use Rattle.run_specs.proofs.AimLemmas.{alarm_visit, value_aim}
 use Rattle.run_specs.specs.Automaton.{location_at}
 use Rattle.run_specs.specs.Logs.{Sample}
 use Rattle.run_specs.specs.Runs.{Move, GapRun, Run, IsLeg, LeadOn, Follows, IsRun, goes_unsafe, path_of, total}
-use Rattle.run_specs.specs.Histories.{History, history_of, history_cmp, IsEarlier}
+use Rattle.run_specs.specs.Histories.{History, history_of}
 use Rattle.run_specs.specs.Aims.{Aim, IsAimedRun, to_alarm, to_value}
 use Rattle.run_specs.specs.FirstRun.{last_values, picked, pick_at, IsLeft, IsReduced, IsFirstRun}
 use Rattle.example_specs.proofs.TankBounds.{one_number}
+use Rattle.example_specs.proofs.Earliest.{none_earlier}
 use Rattle.example_specs.proofs.PickExamples.{pick_zero, pick_only}
 use Rattle.example_specs.proofs.RunTests.{run_from}
 use Rattle.example_specs.specs.Literals.{fraction, whole, blank}
@@ -119,28 +116,10 @@ picks (suc (suc (suc i))) h = absurd (omega arith)
 
 -- ---- the first run
 
--- no history of one gap is earlier than that with no jump from the first location
-none_less : (l : ℕ) (path : List ℕ) → history_cmp (record { start = l; paths = path ∷ [] }) (history_of third_run) ≡ Less → ⊥
-none_less zero [] e = cc
-none_less zero (x ∷ path) e = cc
-none_less (suc l) path e =
-    let above : Greater ≡ nat_cmp (suc l) 0 = nat_cmp_is (suc l) 0 Greater (omega arith) in
-    let f : history_cmp (record { start = suc l; paths = path ∷ [] }) (history_of third_run) ≡ Greater = ap (λ o. ordering_then o (slice_cmp (slice_cmp nat_cmp) (path ∷ []) ([] ∷ []))) (sym above) in
-    let b : ⊥ = cc in b
-
-none_earlier : (other : Run) → IsAimedRun shutter 1 log third other → IsEarlier (history_of other) (history_of third_run) → ⊥
-none_earlier other aimed e = go other.gaps refl aimed.run_of.follows
-  where
-    go : (gs : List GapRun) → other.gaps ≡ gs → Follows shutter 1 other.start zero_fraction log gs → ⊥
-    go [] f h = h
-    go (g ∷ k ∷ gs) f h = h.1
-    go (g ∷ []) f h =
-        none_less other.start.loc (path_of g) (subst (λ gs. history_cmp (record { start = other.start.loc; paths = map path_of gs }) (history_of third_run) ≡ Less) f e)
-
 pub third_is_first : IsFirstRun shutter 1 log third third_run
 third_is_first = record {
   aimed = third_aimed;
-  earliest = none_earlier;
+  earliest = λ other h e. none_earlier shutter 1 (blank (whole 0)) other h.run_of e;
   picks = picks;
   reduced = All-from_recursion IsReduced third_run.gaps (λ k h all. eq-one_of_dvd-one (All-head (λ n. k ∣ unsigned_abs n) (pos 1) (pos 0 ∷ pos 1 ∷ []) all), tt);
 }
