@@ -10,3 +10,4 @@ pub mod Earliest
 pub mod ShutterThird
 pub mod PassTests
 pub mod FixedPasses
+pub mod CoprimeFirst

@@ -3,3 +3,4 @@ pub mod Tanks
 pub mod Shutters
 pub mod Sums
 pub mod Fixed
+pub mod Coprimes

@@ -8,12 +8,13 @@ ghost use Rattle.run_specs.specs.Runs.{IsRun, VisitsUnsafe};
 ghost use Rattle.run_specs.specs.Aims.{to_alarm, to_value};
 ghost use Rattle.run_specs.specs.FirstRun.{IsFirstRun};
 ghost use Rattle.run_specs.specs.Passes.{LogPasses};
-ghost use Rattle.run_specs.specs.RunPasses.{RunPasses};
+ghost use Rattle.run_specs.specs.RunPasses.{FirstRunPasses, RunPasses};
 ghost use Rattle.run_specs.specs.Verdicts.{IsLawful, IsPossible};
 ghost use Rattle.example_specs.specs.Literals.{fraction, whole, observes, blank};
 ghost use Rattle.example_specs.specs.Tanks.{tank, tank_within, rising, rising_run, steep, level, jumps_early, jumps_late, one_in_each, two_in_one};
 ghost use Rattle.example_specs.specs.Shutters.{shutter, half_run, third_run};
 ghost use Rattle.example_specs.specs.Fixed.{fixed, zero_seen, zero_run, tiny, huge_seen};
+ghost use Rattle.example_specs.specs.Coprimes.{coprimes, both_blank, coprime_run};
 
 pub mod sums;
 
@@ -83,4 +84,12 @@ pub fn run_that_does_not_pass()
 pub fn log_that_passes()
     ensures log { (k : ℕ) → LogPasses (fixed tiny) k huge_seen }
     ensures run { (k : ℕ) → RunPasses (fixed tiny) k huge_seen to_alarm }
+{}
+
+/// A log that does not pass may have a first run that does: the least common denominator of its two values has more than 128 bits.
+pub fn run_that_passes()
+    ensures log { LogPasses coprimes 0 (both_blank ∷ []) → ⊥ }
+    ensures first { IsFirstRun coprimes 0 (both_blank ∷ []) to_alarm coprime_run }
+    ensures passes { FirstRunPasses coprimes (both_blank ∷ []) to_alarm coprime_run }
+    ensures run { RunPasses coprimes 0 (both_blank ∷ []) to_alarm }
 {}
