@@ -6,3 +6,8 @@ pub mod WellFormed
 pub mod PickExamples
 pub mod BoundExamples
 pub mod ShutterFirst
+pub mod Earliest
+pub mod ShutterThird
+pub mod PassTests
+pub mod FixedPasses
+pub mod CoprimeFirst

@@ -41,7 +41,7 @@ same_ints_from (x ∷ xs) (y ∷ ys) h =
     let b = and_out (same_int x y) (same_ints xs ys) h in
     let p = same_int_from x y b.0 in let q = same_ints_from xs ys b.1 in cc
 
-same_nat_from : (m n : ℕ) → T (m == n) → m ≡ n
+pub same_nat_from : (m n : ℕ) → T (m == n) → m ≡ n
 same_nat_from m n h = eqb-true m n (true_from (m == n) h)
   where
     true_from : (b : Bool) → T b → b ≡ true

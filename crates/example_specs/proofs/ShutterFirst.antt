@@ -19,7 +19,7 @@ use Rattle.run_specs.specs.Histories.{history_of, IsEarlier}
 use Rattle.run_specs.specs.Aims.{IsAimedRun, to_alarm}
 use Rattle.run_specs.specs.FirstRun.{picked, pick_at, IsLeft, IsReduced, IsFirstRun}
 use Rattle.example_specs.proofs.TankBounds.{one_number}
-use Rattle.example_specs.proofs.PickExamples.{none_inside}
+use Rattle.example_specs.proofs.PickExamples.{none_inside, pick_zero, pick_only}
 use Rattle.example_specs.proofs.Runs.{half_is, half_visits}
 use Rattle.example_specs.proofs.ShutterBounds.{leg_keeps, jump_keeps}
 use Rattle.example_specs.specs.Literals.{fraction, whole, blank, keeps_value}
@@ -234,38 +234,10 @@ half_alarm = record { run_of = half_is; meets = (alarm_visit shutter half_run).1
 own : (i : ℕ) → AllZip SameFraction (take i (picked half_run)) (take i (picked half_run)) → IsLeft shutter 1 log to_alarm half_run i (pick_at i half_run)
 own i same = (half_run, record { aimed = half_alarm; same_history = refl; same_numbers = same; value = refl })
 
--- a number that is 0
-pick_zero : (S : Fraction → Type 0) → S (fraction 0 2) → IsPick S (fraction 0 2)
-pick_zero S s = record {
-  positive = record { lt = tt };
-  some = (fraction 0 2, record { lt = tt }, s);
-  kind = inl (record { inside = s; integer = (pos 0, refl); nearest = λ y hy t i. omega (arith, ints) });
-}
-
 -- a number that can be 1/2 alone
 pick_half : (S : Fraction → Type 0) → S (fraction 1 2) → ((v : Fraction) → IsFraction v → S v → SameFraction v (fraction 1 2)) → IsPick S (fraction 1 2)
-pick_half S s only = record {
-  positive = record { lt = tt };
-  some = (fraction 1 2, record { lt = tt }, s);
-  kind = inr (
-    λ y hy t i. (let e = only y hy t in none_inside y hy i.0 i.1 (omega (arith, ints, e, hy)) (omega (arith, ints, e, hy))),
-    (
-      fraction 1 2,
-      fraction 1 2,
-      inl (
-        record { le = tt },
-        record {
-          low_is = record { lt = tt };
-          high_is = record { lt = tt };
-          ordered = record { le = tt };
-          outside = λ y hy t. (let b = same-AtMost y (fraction 1 2) (only y hy t) in (b.1, b.0));
-          between = λ y hy a b. absurd (omega (arith, ints, a, b));
-        },
-      ),
-      inl (s, refl),
-    ),
-  );
-}
+pick_half S s only =
+    pick_only S (fraction 1 2) (record { lt = tt }) (record { lt = tt }) (record { lt = tt }) s only
 
 -- the last value: strictly between 0 and 1
 pick_last : IsPick (IsLeft shutter 1 log to_alarm half_run 0) (fraction 1 2)
@@ -315,12 +287,12 @@ again v d x hv hd e f = same-trans v (record { num = x; den = d }) (fraction 1 2
 
 picks : (i : ℕ) → i < 6 → IsPick (IsLeft shutter 1 log to_alarm half_run i) (pick_at i half_run)
 picks zero h = pick_last
-picks (suc zero) h = pick_zero (IsLeft shutter 1 log to_alarm half_run 1) (own 1 (refl, tt))
+picks (suc zero) h = pick_zero (IsLeft shutter 1 log to_alarm half_run 1) (pos 2) (record { lt = tt }) (own 1 (refl, tt))
 picks (suc (suc zero)) h = pick_half (IsLeft shutter 1 log to_alarm half_run 2) (own 2 (refl, (refl, tt)))
     (λ v hv s. let (d, x, l) = left_from 2 v s in again v d x hv l.positive l.same_numbers.0 l.value)
 picks (suc (suc (suc zero))) h = pick_half (IsLeft shutter 1 log to_alarm half_run 3) (own 3 (refl, (refl, (refl, tt))))
     (λ v hv s. let (d, x, l) = left_from 3 v s in again v d x hv l.positive l.same_numbers.0 l.value)
-picks (suc (suc (suc (suc zero)))) h = pick_zero (IsLeft shutter 1 log to_alarm half_run 4) (own 4 (refl, (refl, (refl, (refl, tt)))))
+picks (suc (suc (suc (suc zero)))) h = pick_zero (IsLeft shutter 1 log to_alarm half_run 4) (pos 2) (record { lt = tt }) (own 4 (refl, (refl, (refl, (refl, tt)))))
 picks (suc (suc (suc (suc (suc zero))))) h = pick_half (IsLeft shutter 1 log to_alarm half_run 5) (own 5 (refl, (refl, (refl, (refl, (refl, tt))))))
     (λ v hv s. let (d, x, l) = left_from 5 v s in again v d x hv l.positive l.same_numbers.0 l.value)
 picks (suc (suc (suc (suc (suc (suc i)))))) h = absurd (omega arith)

@@ -1,4 +1,4 @@
--- The tank and the shutter are well-formed.
+-- The tank, the shutter and the fixed value are well-formed.
 use Rattle.std.proofs.Common.{◌≡◌, ◌≢◌, ℕ, zero, suc, ◌<◌, List, [], ◌∷◌, length, refl, arith, pos, negsuc, lit≤, lit<, true, false, Some, None}
 use Rattle.std.specs.Prelude.{IsTrue, IsFalse, codes}
 use Rattle.std.proofs.lemmas.List.Elements.{All-from_recursion}
@@ -11,6 +11,7 @@ use Rattle.run_specs.specs.WellFormed.{HasBox, IsLocation, IsTransition, IsWellF
 use Rattle.run_specs.specs.Automaton.{Location}
 use Rattle.example_specs.specs.Tanks.{normal, high, up, down, tank}
 use Rattle.example_specs.specs.Shutters.{shutter, resting, strictly_inside}
+use Rattle.example_specs.specs.Fixed.{at_zero, fixed}
 use Rattle.example_specs.specs.Literals.{row, keeps_value}
 
 zero_lowest : IsLowest zero_fraction
@@ -112,4 +113,30 @@ shutter_is = record {
   each_location = All-from_recursion (IsLocation 1) shutter.locations (open_is, (shut_is, tt));
   each_transition = All-from_recursion (IsTransition 1 2) shutter.transitions
       (record { label = refl; source = lit< tt; target = lit< tt; relation = All-from_recursion (Wide 2) keeps_value (refl, (refl, tt)) }, tt);
+}
+
+abbrev fixed_place : Location
+fixed_place = record { name = codes "a"; is_unsafe = true; init = Some at_zero; invariant = []; slopes = resting }
+
+fixed_place_is : IsLocation 1 fixed_place
+fixed_place_is = record {
+  name = refl;
+  init = All-from_recursion (Wide 1) at_zero (refl, (refl, tt));
+  invariant = All-from_recursion (Wide 1) [] tt;
+  slopes = All-from_recursion (Wide 2) resting (refl, (refl, tt));
+  homogeneous = All-from_recursion Plain resting ((refl, refl), ((refl, refl), tt));
+  boxed = lit≤ tt;
+  boxes = boxed resting (record { above = record { lt = tt }; below = record { lt = tt }; others = λ i h n. alone i h n });
+}
+
+pub fixed_is : IsWellFormed (fixed zero_fraction)
+fixed_is = record {
+  name = refl;
+  variables = (lit≤ tt, lit≤ tt);
+  variable_names = All-from_recursion (λ x. IsTrue (is_name x)) (fixed zero_fraction).variables (refl, tt);
+  locations = (lit≤ tt, lit≤ tt);
+  transitions = lit≤ tt;
+  tolerances = (refl, All-from_recursion (λ w. IsLowest w × AtMost zero_fraction w) (zero_fraction ∷ []) ((zero_lowest, record { le = tt }), tt));
+  each_location = All-from_recursion (IsLocation 1) (fixed_place ∷ []) (fixed_place_is, tt);
+  each_transition = All-from_recursion (IsTransition 1 1) [] tt;
 }

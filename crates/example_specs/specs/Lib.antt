@@ -2,3 +2,5 @@ pub mod Literals
 pub mod Tanks
 pub mod Shutters
 pub mod Sums
+pub mod Fixed
+pub mod Coprimes

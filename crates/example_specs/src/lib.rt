@@ -1,16 +1,20 @@
 //! Examples that pin the definitions: small automata, logs and their runs, and small calculations.
 #![tactic(auto)]
 
-ghost use Rattle.std.specs.Prelude.{[], ◌∷◌};
+ghost use Rattle.std.specs.Prelude.{ℕ, [], ◌∷◌};
 ghost use Rattle.run_specs.specs.declared.Verdict.TheVariants.{Alarm, Impossible};
 ghost use Rattle.run_specs.specs.WellFormed.{IsWellFormed};
 ghost use Rattle.run_specs.specs.Runs.{IsRun, VisitsUnsafe};
-ghost use Rattle.run_specs.specs.Aims.{to_alarm};
+ghost use Rattle.run_specs.specs.Aims.{to_alarm, to_value};
 ghost use Rattle.run_specs.specs.FirstRun.{IsFirstRun};
+ghost use Rattle.run_specs.specs.Passes.{LogPasses};
+ghost use Rattle.run_specs.specs.RunPasses.{FirstRunPasses, RunPasses};
 ghost use Rattle.run_specs.specs.Verdicts.{IsLawful, IsPossible};
 ghost use Rattle.example_specs.specs.Literals.{fraction, whole, observes, blank};
 ghost use Rattle.example_specs.specs.Tanks.{tank, tank_within, rising, rising_run, steep, level, jumps_early, jumps_late, one_in_each, two_in_one};
-ghost use Rattle.example_specs.specs.Shutters.{shutter, half_run};
+ghost use Rattle.example_specs.specs.Shutters.{shutter, half_run, third_run};
+ghost use Rattle.example_specs.specs.Fixed.{fixed, zero_seen, zero_run, tiny, huge_seen};
+ghost use Rattle.example_specs.specs.Coprimes.{coprimes, both_blank, coprime_run};
 
 pub mod sums;
 
@@ -49,6 +53,12 @@ pub fn shutter_first_run()
     ensures { IsFirstRun shutter 1 (blank (whole 0) ∷ []) to_alarm half_run }
 {}
 
+/// To the value 1/3 another run is the first, which rests there and does not jump: it is none to an alarm.
+pub fn shutter_first_run_to_a_third()
+    ensures to_third { IsFirstRun shutter 1 (blank (whole 0) ∷ []) (to_value 1 0 (fraction 1 3)) third_run }
+    ensures to_no_alarm { IsFirstRun shutter 1 (blank (whole 0) ∷ []) to_alarm third_run → ⊥ }
+{}
+
 /// The shutter's value is never 0, since its rows are strict.
 pub fn shutter_at_zero()
     ensures { IsLawful shutter 1 (observes (whole 0) (whole 0) ∷ []) Impossible }
@@ -62,4 +72,24 @@ pub fn within_the_tolerance()
 /// It may not be observed at 3 there.
 pub fn past_the_tolerance()
     ensures { IsLawful (tank_within (fraction 1 2)) 2 (observes (whole 0) (fraction 1 2) ∷ observes (whole 1) (whole 3) ∷ []) Impossible }
+{}
+
+/// A log that sees a fixed value at 0 does not pass 128 bits, and nor does its first run to the alarm, which rests at 0.
+pub fn run_that_does_not_pass()
+    ensures first { (k : ℕ) → IsFirstRun (fixed (whole 0)) k zero_seen to_alarm zero_run }
+    ensures no_pass { (k : ℕ) → RunPasses (fixed (whole 0)) k zero_seen to_alarm → ⊥ }
+{}
+
+/// A log with a value of many digits passes: its sum with a tolerance of 1/999999999 does. Then its first run counts as passing, whatever it is.
+pub fn log_that_passes()
+    ensures log { (k : ℕ) → LogPasses (fixed tiny) k huge_seen }
+    ensures run { (k : ℕ) → RunPasses (fixed tiny) k huge_seen to_alarm }
+{}
+
+/// A log that does not pass may have a first run that does: the least common denominator of its two values has more than 128 bits.
+pub fn run_that_passes()
+    ensures log { LogPasses coprimes 0 (both_blank ∷ []) → ⊥ }
+    ensures first { IsFirstRun coprimes 0 (both_blank ∷ []) to_alarm coprime_run }
+    ensures passes { FirstRunPasses coprimes (both_blank ∷ []) to_alarm coprime_run }
+    ensures run { RunPasses coprimes 0 (both_blank ∷ []) to_alarm }
 {}
