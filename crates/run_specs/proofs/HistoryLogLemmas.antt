@@ -1,8 +1,8 @@
 -- The log of a history is a log, and each log that has the history's entries begins with it.
-use Rattle.std.proofs.Common.{◌≡◌, ℕ, List, [], ◌∷◌, length, take, refl, sym, ◌∙◌, ap, ap₂, subst, arith, ℤ, pos, ◌+ℤ◌, ◌-ℤ◌, ◌*ℤ◌, ◌<ℤ◌, Option}
+use Rattle.std.proofs.Common.{◌≡◌, ℕ, zero, suc, List, [], ◌∷◌, length, take, refl, sym, ◌∙◌, ap, ap₂, subst, arith, ℤ, pos, ◌+ℤ◌, ◌-ℤ◌, ◌*ℤ◌, ◌<ℤ◌, Option}
 use Rattle.std.specs.Prelude.{All}
 use Rattle.std.proofs.lemmas.Int.{ints}
-use Rattle.std.proofs.lemmas.List.Elements.{All-nil, All-cons, All-head, All-tail}
+use Rattle.std.proofs.lemmas.List.Elements.{All-nil, All-cons, All-head, All-tail, All-take}
 use Rattle.poly_specs.proofs.IntLemmas.{products, expand, add_mul, product_positive}
 use Rattle.poly_specs.proofs.FractionLemmas.{AtMost-trans, Below-AtMost_trans, same-AtMost}
 use Rattle.poly_specs.proofs.LowestLemmas.{lowest-IsFraction, lowest-same, lowest-stays, same-lowest}
@@ -169,3 +169,49 @@ log_length h = go zero_fraction h.gaps
     go : (t : Fraction) (es : List Entry) → length (samples_after t es) ≡ length es
     go t [] = refl
     go t (e ∷ es) = let r = go (time_after t e) es in omega (arith, r)
+
+-- ---- beginnings
+
+-- the history of the first gaps
+abbrev pub first_gaps : ℕ → SessionHistory → SessionHistory
+first_gaps i h = record h { gaps = take i h.gaps }
+
+samples-take : (t : Fraction) (i : ℕ) (es : List Entry) → samples_after t (take i es) ≡ take i (samples_after t es)
+samples-take t zero es = refl
+samples-take t (suc i) [] = refl
+samples-take t (suc i) (e ∷ es) =
+    ap (λ (ss : List Sample). record { time = time_after t e; cells = e.key.seen } ∷ ss) (samples-take (time_after t e) i es)
+
+pub log-first : (h : SessionHistory) (i : ℕ) → log_of (first_gaps i h) ≡ take i (log_of h)
+log-first h i = samples-take zero_fraction i h.gaps
+
+none-take : (i : ℕ) (es : List Entry) → es ≡ [] → take i es ≡ []
+none-take zero es e = refl
+none-take (suc i) [] e = refl
+none-take (suc i) (x ∷ es) e = absurd (let f : ⊥ = cc in f)
+
+linked-take : (a : Automaton) (k : ℕ) (belief : List State) (i : ℕ) (es : List Entry) → AreLinked a k belief es → AreLinked a k belief (take i es)
+linked-take a k belief zero es h = tt
+linked-take a k belief (suc i) [] h = tt
+linked-take a k belief (suc i) (e ∷ es) h = (h.0, h.1, h.2, h.3, next (λ b l. linked-take a k b i es l) e.outcome h.4)
+  where
+    next : ((b : List State) → AreLinked a k b es → AreLinked a k b (take i es)) →
+        (o : Outcome) → elim o as (λ _. Type 0) [ Next items ↦ AreLinked a k (states items) es | Passed ↦ es ≡ [] ] →
+        elim o as (λ _. Type 0) [ Next items ↦ AreLinked a k (states items) (take i es) | Passed ↦ take i es ≡ [] ]
+    next later (Next items) l = later (states items) l
+    next later Passed l = none-take i es l
+
+gaps-take : (i : ℕ) (es : List Entry) → LaterGapsLast es → LaterGapsLast (take i es)
+gaps-take zero es h = tt
+gaps-take (suc i) [] h = tt
+gaps-take (suc i) (e ∷ es) h = All-take (λ x. Below zero_fraction x.key.gap) i es h
+
+pub history-first : (h : SessionHistory) (i : ℕ) → IsHistory h → IsHistory (first_gaps i h)
+history-first h i is = record {
+  automaton = is.automaton;
+  jumps = is.jumps;
+  opening = is.opening;
+  not_opened = λ e. none-take i h.gaps (is.not_opened e);
+  linked = linked-take h.automaton h.jumps (opening_states h) i h.gaps is.linked;
+  later_gaps = gaps-take i h.gaps is.later_gaps;
+}
