@@ -6,3 +6,4 @@ pub mod WellFormed
 pub mod PickExamples
 pub mod BoundExamples
 pub mod ShutterFirst
+pub mod ShutterThird

@@ -11,13 +11,15 @@ use Rattle.poly_specs.proofs.FractionLemmas.{AtMost-Below, Below-AtMost, Below-A
 use Rattle.poly_specs.specs.Fractions.{Fraction, IsFraction, SameFraction, Below, zero_fraction}
 use Rattle.poly_specs.specs.Rows.{Point, over, Holds, AllHold}
 use Rattle.poly_specs.specs.Picks.{IsPick}
+use Rattle.run_specs.proofs.AimLemmas.{alarm_visit}
 use Rattle.run_specs.specs.Automaton.{never, location_at, transition_at}
 use Rattle.run_specs.specs.Logs.{Sample, cell_at}
 use Rattle.run_specs.specs.Runs.{Leg, Move, GapRun, Place, Run, IsLeg, IsJump, LeadOn, Follows, IsStart, goes_unsafe, path_of, total}
 use Rattle.run_specs.specs.Histories.{history_of, IsEarlier}
-use Rattle.run_specs.specs.FirstRun.{picked, pick_at, IsAlarmRun, IsLeft, IsReduced, IsFirstRun}
+use Rattle.run_specs.specs.Aims.{IsAimedRun, to_alarm}
+use Rattle.run_specs.specs.FirstRun.{picked, pick_at, IsLeft, IsReduced, IsFirstRun}
 use Rattle.example_specs.proofs.TankBounds.{one_number}
-use Rattle.example_specs.proofs.PickExamples.{none_inside}
+use Rattle.example_specs.proofs.PickExamples.{none_inside, pick_zero, pick_only}
 use Rattle.example_specs.proofs.Runs.{half_is, half_visits}
 use Rattle.example_specs.proofs.ShutterBounds.{leg_keeps, jump_keeps}
 use Rattle.example_specs.specs.Literals.{fraction, whole, blank, keeps_value}
@@ -56,7 +58,7 @@ at_rest l d x h = record {
 no_rows : (p : Point) → AllHold [] p
 no_rows p = All-from_recursion (λ r. Holds r p) [] tt
 
-still_is : (d x : ℤ) → pos 0 <ℤ x → x <ℤ d → IsAlarmRun shutter 1 log (still_run d x)
+still_is : (d x : ℤ) → pos 0 <ℤ x → x <ℤ d → IsAimedRun shutter 1 log to_alarm (still_run d x)
 still_is d x lo up = record {
   run_of = record {
     starts = record {
@@ -88,7 +90,7 @@ still_is d x lo up = record {
       tt,
     );
   };
-  visits = (0, _, lit< tt, refl, refl);
+  meets = (alarm_visit shutter (still_run d x)).1 (0, _, lit< tt, refl, refl);
 }
   where
     positive : pos 0 <ℤ d
@@ -169,8 +171,8 @@ gap_still d x t (m ∷ []) last hd few unsafe lasts leads =
     only zero p q j = refl
     only (suc e) p q j = absurd (let n = j.related 0 never (lit< tt) in omega (arith, ints, n, hd))
 
-still_from : (run : Run) → IsAlarmRun shutter 1 log run → (d x : ℤ) × IsStill run d x
-still_from run alarm = go run.gaps refl alarm.run_of.follows (list_any-from_Any (λ g. goes_unsafe shutter g.start_loc (path_of g)) run.gaps alarm.visits)
+still_from : (run : Run) → IsAimedRun shutter 1 log to_alarm run → (d x : ℤ) × IsStill run d x
+still_from run alarm = go run.gaps refl alarm.run_of.follows (list_any-from_Any (λ g. goes_unsafe shutter g.start_loc (path_of g)) run.gaps ((alarm_visit shutter run).0 alarm.meets))
   where
     go : (gs : List GapRun) → run.gaps ≡ gs → Follows shutter 1 run.start zero_fraction log gs → list_any (λ g. goes_unsafe shutter g.start_loc (path_of g)) gs ≡ true → (d x : ℤ) × IsStill run d x
     go [] e h v = absurd h
@@ -211,9 +213,9 @@ record Left (i : ℕ) (v : Fraction) (d x : ℤ) : Type 0 where
   same_numbers : AllZip SameFraction (take i (picked (still_run d x))) (take i (picked half_run))
   value : SameFraction (pick_at i (still_run d x)) v
 
-left_from : (i : ℕ) (v : Fraction) → IsLeft shutter 1 log half_run i v → (d x : ℤ) × Left i v d x
+left_from : (i : ℕ) (v : Fraction) → IsLeft shutter 1 log to_alarm half_run i v → (d x : ℤ) × Left i v d x
 left_from i v (other, t) =
-    let (d, x, s) = still_from other t.alarm in (
+    let (d, x, s) = still_from other t.aimed in (
       d,
       x,
       record {
@@ -225,48 +227,20 @@ left_from i v (other, t) =
       },
     )
 
-half_alarm : IsAlarmRun shutter 1 log half_run
-half_alarm = record { run_of = half_is; visits = half_visits }
+half_alarm : IsAimedRun shutter 1 log to_alarm half_run
+half_alarm = record { run_of = half_is; meets = (alarm_visit shutter half_run).1 half_visits }
 
 -- the run itself takes its own numbers
-own : (i : ℕ) → AllZip SameFraction (take i (picked half_run)) (take i (picked half_run)) → IsLeft shutter 1 log half_run i (pick_at i half_run)
-own i same = (half_run, record { alarm = half_alarm; same_history = refl; same_numbers = same; value = refl })
-
--- a number that is 0
-pick_zero : (S : Fraction → Type 0) → S (fraction 0 2) → IsPick S (fraction 0 2)
-pick_zero S s = record {
-  positive = record { lt = tt };
-  some = (fraction 0 2, record { lt = tt }, s);
-  kind = inl (record { inside = s; integer = (pos 0, refl); nearest = λ y hy t i. omega (arith, ints) });
-}
+own : (i : ℕ) → AllZip SameFraction (take i (picked half_run)) (take i (picked half_run)) → IsLeft shutter 1 log to_alarm half_run i (pick_at i half_run)
+own i same = (half_run, record { aimed = half_alarm; same_history = refl; same_numbers = same; value = refl })
 
 -- a number that can be 1/2 alone
 pick_half : (S : Fraction → Type 0) → S (fraction 1 2) → ((v : Fraction) → IsFraction v → S v → SameFraction v (fraction 1 2)) → IsPick S (fraction 1 2)
-pick_half S s only = record {
-  positive = record { lt = tt };
-  some = (fraction 1 2, record { lt = tt }, s);
-  kind = inr (
-    λ y hy t i. (let e = only y hy t in none_inside y hy i.0 i.1 (omega (arith, ints, e, hy)) (omega (arith, ints, e, hy))),
-    (
-      fraction 1 2,
-      fraction 1 2,
-      inl (
-        record { le = tt },
-        record {
-          low_is = record { lt = tt };
-          high_is = record { lt = tt };
-          ordered = record { le = tt };
-          outside = λ y hy t. (let b = same-AtMost y (fraction 1 2) (only y hy t) in (b.1, b.0));
-          between = λ y hy a b. absurd (omega (arith, ints, a, b));
-        },
-      ),
-      inl (s, refl),
-    ),
-  );
-}
+pick_half S s only =
+    pick_only S (fraction 1 2) (record { lt = tt }) (record { lt = tt }) (record { lt = tt }) s only
 
 -- the last value: strictly between 0 and 1
-pick_last : IsPick (IsLeft shutter 1 log half_run 0) (fraction 1 2)
+pick_last : IsPick (IsLeft shutter 1 log to_alarm half_run 0) (fraction 1 2)
 pick_last = record {
   positive = record { lt = tt };
   some = (fraction 1 2, record { lt = tt }, own 0 tt);
@@ -284,7 +258,7 @@ pick_last = record {
           outside = λ y hy s. (let b = bounds y hy s in (Below-AtMost zero_fraction y b.0, Below-AtMost y (whole 1) b.1));
           between = λ y hy a b. (
             still_run y.den y.num,
-            record { alarm = still_is y.den y.num (omega (arith, ints, a)) (omega (arith, ints, b)); same_history = refl; same_numbers = tt; value = refl },
+            record { aimed = still_is y.den y.num (omega (arith, ints, a)) (omega (arith, ints, b)); same_history = refl; same_numbers = tt; value = refl },
           );
         },
       ),
@@ -297,7 +271,7 @@ pick_last = record {
   );
 }
   where
-    bounds : (v : Fraction) → IsFraction v → IsLeft shutter 1 log half_run 0 v → Below zero_fraction v × Below v (whole 1)
+    bounds : (v : Fraction) → IsFraction v → IsLeft shutter 1 log to_alarm half_run 0 v → Below zero_fraction v × Below v (whole 1)
     bounds v hv s =
         let (d, x, l) = left_from 0 v s in
         let p : Fraction = record { num = x; den = d } in
@@ -311,28 +285,28 @@ pick_last = record {
 again : (v : Fraction) (d x : ℤ) → IsFraction v → pos 0 <ℤ d → SameFraction (record { num = x; den = d }) (fraction 1 2) → SameFraction (record { num = x; den = d }) v → SameFraction v (fraction 1 2)
 again v d x hv hd e f = same-trans v (record { num = x; den = d }) (fraction 1 2) hv hd (record { lt = tt }) (sym f) e
 
-picks : (i : ℕ) → i < 6 → IsPick (IsLeft shutter 1 log half_run i) (pick_at i half_run)
+picks : (i : ℕ) → i < 6 → IsPick (IsLeft shutter 1 log to_alarm half_run i) (pick_at i half_run)
 picks zero h = pick_last
-picks (suc zero) h = pick_zero (IsLeft shutter 1 log half_run 1) (own 1 (refl, tt))
-picks (suc (suc zero)) h = pick_half (IsLeft shutter 1 log half_run 2) (own 2 (refl, (refl, tt)))
+picks (suc zero) h = pick_zero (IsLeft shutter 1 log to_alarm half_run 1) (pos 2) (record { lt = tt }) (own 1 (refl, tt))
+picks (suc (suc zero)) h = pick_half (IsLeft shutter 1 log to_alarm half_run 2) (own 2 (refl, (refl, tt)))
     (λ v hv s. let (d, x, l) = left_from 2 v s in again v d x hv l.positive l.same_numbers.0 l.value)
-picks (suc (suc (suc zero))) h = pick_half (IsLeft shutter 1 log half_run 3) (own 3 (refl, (refl, (refl, tt))))
+picks (suc (suc (suc zero))) h = pick_half (IsLeft shutter 1 log to_alarm half_run 3) (own 3 (refl, (refl, (refl, tt))))
     (λ v hv s. let (d, x, l) = left_from 3 v s in again v d x hv l.positive l.same_numbers.0 l.value)
-picks (suc (suc (suc (suc zero)))) h = pick_zero (IsLeft shutter 1 log half_run 4) (own 4 (refl, (refl, (refl, (refl, tt)))))
-picks (suc (suc (suc (suc (suc zero))))) h = pick_half (IsLeft shutter 1 log half_run 5) (own 5 (refl, (refl, (refl, (refl, (refl, tt))))))
+picks (suc (suc (suc (suc zero)))) h = pick_zero (IsLeft shutter 1 log to_alarm half_run 4) (pos 2) (record { lt = tt }) (own 4 (refl, (refl, (refl, (refl, tt)))))
+picks (suc (suc (suc (suc (suc zero))))) h = pick_half (IsLeft shutter 1 log to_alarm half_run 5) (own 5 (refl, (refl, (refl, (refl, (refl, tt))))))
     (λ v hv s. let (d, x, l) = left_from 5 v s in again v d x hv l.positive l.same_numbers.0 l.value)
 picks (suc (suc (suc (suc (suc (suc i)))))) h = absurd (omega arith)
 
-none_earlier : (other : Run) → IsAlarmRun shutter 1 log other → IsEarlier (history_of other) (history_of half_run) → ⊥
+none_earlier : (other : Run) → IsAimedRun shutter 1 log to_alarm other → IsEarlier (history_of other) (history_of half_run) → ⊥
 none_earlier other alarm e =
     let (d, x, s) = still_from other alarm in
     let same : history_of other ≡ history_of half_run = λ i. record { start = s.loc i; paths = map path_of (s.gaps i) } in
     let f : IsEarlier (history_of half_run) (history_of half_run) = subst (λ h. IsEarlier h (history_of half_run)) same e in
     let b : ⊥ = cc in b
 
-pub half_is_first : IsFirstRun shutter 1 log half_run
+pub half_is_first : IsFirstRun shutter 1 log to_alarm half_run
 half_is_first = record {
-  alarm = half_alarm;
+  aimed = half_alarm;
   earliest = none_earlier;
   picks = picks;
   reduced = All-from_recursion IsReduced half_run.gaps (λ k h all. eq-one_of_dvd-one (All-head (λ n. k ∣ unsigned_abs n) (pos 1) (pos 0 ∷ pos 1 ∷ pos 1 ∷ pos 0 ∷ pos 1 ∷ []) all), tt);

@@ -41,3 +41,11 @@ half_run = record {
       }
       ∷ [];
 }
+
+-- the run of one gap of length 0 that rests at 1/3
+abbrev pub third_run : Run
+third_run = record {
+  start = record { loc = 0; point = over (pos 3) (pos 1 ∷ []) };
+  gaps =
+      record { den = pos 3; start_loc = 0; start = pos 1 ∷ []; moves = []; last = record { length_of = pos 0; at_end = pos 1 ∷ [] } } ∷ [];
+}

@@ -5,11 +5,12 @@ ghost use Rattle.std.specs.Prelude.{[], ◌∷◌};
 ghost use Rattle.run_specs.specs.declared.Verdict.TheVariants.{Alarm, Impossible};
 ghost use Rattle.run_specs.specs.WellFormed.{IsWellFormed};
 ghost use Rattle.run_specs.specs.Runs.{IsRun, VisitsUnsafe};
+ghost use Rattle.run_specs.specs.Aims.{to_alarm, to_value};
 ghost use Rattle.run_specs.specs.FirstRun.{IsFirstRun};
 ghost use Rattle.run_specs.specs.Verdicts.{IsLawful, IsPossible};
 ghost use Rattle.example_specs.specs.Literals.{fraction, whole, observes, blank};
 ghost use Rattle.example_specs.specs.Tanks.{tank, tank_within, rising, rising_run, steep, level, jumps_early, jumps_late, one_in_each, two_in_one};
-ghost use Rattle.example_specs.specs.Shutters.{shutter, half_run};
+ghost use Rattle.example_specs.specs.Shutters.{shutter, half_run, third_run};
 
 pub mod sums;
 
@@ -45,7 +46,13 @@ pub fn shutter_unobserved()
 
 /// That run is the first one: 1/2 is the pick of the values that are left for its end, and the rest follows.
 pub fn shutter_first_run()
-    ensures { IsFirstRun shutter 1 (blank (whole 0) ∷ []) half_run }
+    ensures { IsFirstRun shutter 1 (blank (whole 0) ∷ []) to_alarm half_run }
+{}
+
+/// To the value 1/3 another run is the first, which rests there and does not jump: it is none to an alarm.
+pub fn shutter_first_run_to_a_third()
+    ensures to_third { IsFirstRun shutter 1 (blank (whole 0) ∷ []) (to_value 1 0 (fraction 1 3)) third_run }
+    ensures to_no_alarm { IsFirstRun shutter 1 (blank (whole 0) ∷ []) to_alarm third_run → ⊥ }
 {}
 
 /// The shutter's value is never 0, since its rows are strict.
