@@ -160,8 +160,8 @@ history_has_log h is =
       entries = samples_have h.automaton zero_fraction h.gaps all (record { lt = tt });
     }
 
-pub log_is_this : (h : SessionHistory) (log : List Sample) → HasLog h log → take (length h.gaps) log ≡ log_of h
-log_is_this h log is = samples_are_these (width h.automaton) zero_fraction log h.gaps (record { lt = tt }) is.is_log.each is.entries
+pub log_is_this : (h : SessionHistory) (log : List Sample) → IsLog (width h.automaton) log → AreEntriesOf zero_fraction log h.gaps → take (length h.gaps) log ≡ log_of h
+log_is_this h log is entries = samples_are_these (width h.automaton) zero_fraction log h.gaps (record { lt = tt }) is.each entries
 
 pub log_length : (h : SessionHistory) → length (log_of h) ≡ length h.gaps
 log_length h = go zero_fraction h.gaps

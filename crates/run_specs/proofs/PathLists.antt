@@ -8,6 +8,7 @@ use Rattle.std.proofs.lemmas.Cmp.{tied_itself}
 use Rattle.std.proofs.lemmas.Bool.{cases_lt}
 use Rattle.poly_specs.proofs.InclusionLemmas.{in_left, in_right, in_either}
 use Rattle.poly_specs.proofs.EliminationLemmas.{out_map, in_map}
+use Rattle.run_specs.proofs.HistorySystems.{same_or_not}
 use Rattle.poly_specs.specs.Lists.{In}
 use Rattle.run_specs.specs.Automaton.{Automaton, transition_at}
 use Rattle.run_specs.specs.Passes.{Fits}
@@ -36,12 +37,6 @@ order-map R S f h (x ∷ xs) g = (
 )
 
 -- ---- paths from a location
-
-pub same_or_not : (x y : ℕ) → (x ≡ y) ⊎ (x ≡ y → ⊥)
-same_or_not x y = elim (cases_lt x y) [
-  | inl lt ↦ inr (λ e. omega (arith, e, lt))
-  | inr ge ↦ elim (cases_lt y x) [ inl gt ↦ inr (λ e. omega (arith, e, gt)) | inr le ↦ inl (omega (arith, ge, le)) ]
-]
 
 -- transition e and then one of these paths, where the transition leaves location l
 abbrev begun : (a : Automaton) (l e : ℕ) → ((transition_at a e).source ≡ l) ⊎ ((transition_at a e).source ≡ l → ⊥) → List (List ℕ) → List (List ℕ)

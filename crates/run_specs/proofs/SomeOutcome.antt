@@ -9,8 +9,9 @@ use Rattle.poly_specs.proofs.InclusionLemmas.{in_left, in_right, in_either}
 use Rattle.poly_specs.proofs.PickingLemmas.{point_or_none}
 use Rattle.run_specs.proofs.StageWidths.{gap_wide}
 use Rattle.run_specs.proofs.GapExact.{gap_exact}
+use Rattle.run_specs.proofs.HistorySystems.{same_or_not}
 use Rattle.run_specs.proofs.RowDecisions.{within_or_not}
-use Rattle.run_specs.proofs.PathLists.{InOrder, Branch, BranchBefore, branch, same_or_not, branches_of}
+use Rattle.run_specs.proofs.PathLists.{InOrder, Branch, BranchBefore, branch, branches_of}
 use Rattle.poly_specs.specs.Lists.{In}
 use Rattle.poly_specs.specs.Rows.{Point, Row, AllWide}
 use Rattle.run_specs.specs.Automaton.{width}

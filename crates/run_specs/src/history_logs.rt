@@ -1,4 +1,4 @@
-//! The log that a history alone tells, that each session with this history has it, and what the history tells of it.
+//! The log that a history alone tells. Each session with this history has it, and the verdicts that the history tells are lawful for it.
 
 ghost use Rattle.std.specs.Prelude.{◌≡◌, ℕ, suc, ◌<◌, List, length, take, Some};
 ghost use Rattle.poly_specs.specs.Fractions.{zero_fraction};
@@ -25,7 +25,7 @@ pub fn beginnings_are_histories()
 
 /// There is one such log: each log whose first samples have these entries begins with it.
 pub fn one_log_of_a_history()
-    ensures { (h : SessionHistory) (log : List Sample) → IsHistory h → IsLog (width h.automaton) log → AreEntriesOf zero_fraction log h.gaps →
+    ensures { (h : SessionHistory) (log : List Sample) → IsLog (width h.automaton) log → AreEntriesOf zero_fraction log h.gaps →
         take (length h.gaps) log ≡ log_of h }
 {}
 
