@@ -136,6 +136,10 @@ history_all_lawful hist log i Alarm is h e = history_lawful hist log i Alarm is 
 history_all_lawful hist log i Safe is h e = history_lawful hist log i Safe is h e (λ f. cc)
 history_all_lawful hist log i Impossible is h e = history_lawful hist log i Impossible is h e (λ f. cc)
 
+pub session_all_lawful : (s : MonitorSession) (i : ℕ) (v : Verdict) → IsMonitorSession s → i < length s.log → verdict_at s.history i ≡ Some v →
+    IsLawful s.history.automaton s.history.jumps (take (suc i) s.log) v
+session_all_lawful s i v is h e = history_all_lawful s.history s.log i v (session_has_log s is) h e
+
 -- ---- the replies to a log
 
 overflow_stays : (belief : List State) (es : List Entry) (i : ℕ) → verdict_after belief es i ≡ Some Overflow → verdict_after belief es (suc i) ≡ Some Overflow
@@ -198,4 +202,4 @@ module _ (a : Automaton) (k : ℕ) where
 pub session_replies_lawful : (s : MonitorSession) (replies : List Verdict) → IsMonitorSession s → length replies ≡ length s.log →
     ((i : ℕ) → i < length s.log → verdict_at s.history i ≡ slice_get replies i) → AreLawful s.history.automaton s.history.jumps s.log replies
 session_replies_lawful s replies is n same =
-    replies_lawful s.history.automaton s.history.jumps (verdict_at s.history) [] s.log replies (history_stays s.history) n same (λ i v h e. history_all_lawful s.history s.log i v (session_has_log s is) h e)
+    replies_lawful s.history.automaton s.history.jumps (verdict_at s.history) [] s.log replies (history_stays s.history) n same (λ i v h e. session_all_lawful s i v is h e)
