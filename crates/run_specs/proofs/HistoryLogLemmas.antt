@@ -8,13 +8,14 @@ use Rattle.poly_specs.proofs.FractionLemmas.{AtMost-trans, Below-AtMost_trans, s
 use Rattle.poly_specs.proofs.LowestLemmas.{lowest-IsFraction, lowest-same, lowest-stays, same-lowest}
 use Rattle.poly_specs.specs.Fractions.{Fraction, IsFraction, SameFraction, AtMost, Below, sum_of, difference, zero_fraction}
 use Rattle.poly_specs.specs.Arithmetic.{lowest}
+use Rattle.poly_specs.specs.LowestTerms.{IsLowest}
 use Rattle.run_specs.specs.Automaton.{Automaton, width}
 use Rattle.run_specs.specs.Logs.{Sample, IsSample, IsLog, RiseFrom, TimesRise}
 use Rattle.run_specs.specs.Keys.{State}
 use Rattle.run_specs.specs.Outcomes.{Outcome, Next, Passed}
 use Rattle.run_specs.specs.SessionHistories.{Entry, IsEntry, SessionHistory, IsHistory, AreLinked, LaterGapsLast, states, opening_states}
 use Rattle.run_specs.specs.Sessions.{MonitorSession, IsMonitorSession, AreEntriesOf}
-use Rattle.run_specs.specs.HistoryLogs.{time_after, samples_after, log_of}
+use Rattle.run_specs.specs.HistoryLogs.{time_after, samples_after, log_of, AgreeFrom, DoAgree}
 
 -- ---- sums and differences of times
 
@@ -139,6 +140,31 @@ samples_are_these m t (s ∷ ss) (e ∷ es) ht all h =
     ap₂ (λ (x : Sample) (xs : List Sample). x ∷ xs)
     (ap₂ (λ (u : Fraction) (cells : List (Option Fraction)). record { time = u; cells = cells }) (sym time) (sym h.1))
     (rest ∙ ap (λ u. samples_after u es) (sym time))
+
+-- ---- logs that agree
+
+-- two times, each in lowest terms, after gaps of one length from one time
+same_time : (t s r : Fraction) → IsFraction t → IsLowest s → IsLowest r → SameFraction (difference s t) (difference r t) → s ≡ r
+same_time t s r ht is other same =
+    let gap : Fraction = difference s t in
+    let hg : IsFraction gap = product_positive s.den t.den is.positive ht in
+    let sum : Fraction = sum_of t gap in
+    let hs : IsFraction sum = product_positive t.den gap.den ht hg in
+    sym is.lowest_terms ∙ sym (same-lowest sum s hs is.positive (difference_back t s gap refl)) ∙ same-lowest sum r hs other.positive (difference_back t r gap same) ∙ other.lowest_terms
+
+agree_equal : (m : ℕ) (t u : Fraction) (ss rs : List Sample) → t ≡ u → IsFraction t → All (IsSample m) ss → All (IsSample m) rs → AgreeFrom t u ss rs → ss ≡ rs
+agree_equal m t u [] [] e ht all others h = refl
+agree_equal m t u [] (r ∷ rs) e ht all others h = absurd h
+agree_equal m t u (s ∷ ss) [] e ht all others h = absurd h
+agree_equal m t u (s ∷ ss) (r ∷ rs) e ht all others h =
+    let here = All-head (IsSample m) s ss all in
+    let there = All-head (IsSample m) r rs others in
+    let time : s.time ≡ r.time = same_time t s.time r.time ht here.time there.time (subst (λ x. SameFraction (difference s.time t) (difference r.time x)) (sym e) h.0) in
+    ap₂ (λ (x : Sample) (xs : List Sample). x ∷ xs) (ap₂ (λ (x : Fraction) (cells : List (Option Fraction)). record { time = x; cells = cells }) time h.1)
+    (agree_equal m s.time r.time ss rs time here.time.positive (All-tail (IsSample m) s ss all) (All-tail (IsSample m) r rs others) h.2)
+
+pub logs_equal : (m : ℕ) (samples others : List Sample) → IsLog m samples → IsLog m others → DoAgree samples others → samples ≡ others
+logs_equal m samples others is other h = agree_equal m zero_fraction zero_fraction samples others refl (record { lt = tt }) is.each other.each h
 
 -- ---- histories
 

@@ -8,7 +8,7 @@ ghost use Rattle.run_specs.specs.Verdicts.{IsLawful};
 ghost use Rattle.run_specs.specs.Logs.{Sample, IsLog};
 ghost use Rattle.run_specs.specs.SessionHistories.{SessionHistory, IsHistory, verdict_at};
 ghost use Rattle.run_specs.specs.Sessions.{MonitorSession, IsMonitorSession, AreEntriesOf};
-ghost use Rattle.run_specs.specs.HistoryLogs.{log_of};
+ghost use Rattle.run_specs.specs.HistoryLogs.{log_of, DoAgree};
 
 /// The log of a history is a log, with one sample for each entry, and its entries are those of the history.
 pub fn histories_have_logs()
@@ -38,4 +38,9 @@ pub fn sessions_begin_with_their_history_logs()
 pub fn histories_tell_lawful_verdicts()
     ensures { (h : SessionHistory) (i : ℕ) (v : Verdict) → IsHistory h → i < length h.gaps → verdict_at h i ≡ Some v →
         IsLawful h.automaton h.jumps (take (suc i) (log_of h)) v }
+{}
+
+/// Two logs that agree in their gaps and observed values are equal, since times are in lowest terms: whatever holds of one holds of the other.
+pub fn logs_that_agree_are_equal()
+    ensures { (m : ℕ) (samples others : List Sample) → IsLog m samples → IsLog m others → DoAgree samples others → samples ≡ others }
 {}
