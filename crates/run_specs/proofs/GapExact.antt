@@ -1,15 +1,12 @@
 -- The rows after the plain stages of a gap hold exactly at the ends of its gap runs.
-use Rattle.std.proofs.Common.{◌≡◌, ◌↔◌, ℕ, ◌<◌, List, length, sym, subst, pos, ◌<ℤ◌}
+use Rattle.std.proofs.Common.{◌≡◌, ◌↔◌, ℕ, ◌<◌, List, length, pos, ◌<ℤ◌}
 use Rattle.run_specs.specs.PlainHistories.{AllReached}
-use Rattle.run_specs.proofs.GapEnds.{IsGapCase, gap_there}
-use Rattle.run_specs.proofs.OverflowLemmas.{key_case}
-use Rattle.run_specs.proofs.RunEndLemmas.{all_same}
+use Rattle.run_specs.proofs.GapEnds.{IsGapCase}
+use Rattle.run_specs.proofs.OverflowLemmas.{key_case, end_there}
 use Rattle.poly_specs.specs.Rows.{Point, AllHold}
 use Rattle.run_specs.specs.Automaton.{Automaton, width}
 use Rattle.run_specs.specs.Keys.{State, Key, IsState, IsKey, no_state, parent_at}
-use Rattle.run_specs.specs.Outcomes.{MayTake, LeadsTo, IsEnd}
-use Rattle.run_specs.specs.Passes.{Fits}
-use Rattle.run_specs.specs.Runs.{GapRun, path_of, end_point}
+use Rattle.run_specs.specs.Outcomes.{MayTake, IsEnd}
 use Rattle.run_specs.specs.Stages.{gap_stages, gap_rows}
 use Rattle.run_specs.specs.WellFormed.{IsWellFormed}
 use Rattle.run_specs.proofs.GapBack.{gap_back}
@@ -21,22 +18,17 @@ gap_case key i wf is h =
     let state : IsState key.automaton (parent_at key i) = is.belief i no_state h in
     key_case key (parent_at key i).loc (parent_at key i).rows wf is state.loc state.wide
 
--- where a gap run leads, the gap's stages have points, and the rows after them hold
-gap_of_run : (key : Key) (i : ℕ) (path : List ℕ) (q : Point) → IsWellFormed key.automaton → IsKey key → MayTake key i path → (g : GapRun) → LeadsTo key i path q g →
+-- where a gap run ends, the gap's stages have points, and the rows after them hold
+gap_reached : (key : Key) (i : ℕ) (path : List ℕ) (q : Point) → IsWellFormed key.automaton → IsKey key → MayTake key i path → IsEnd key i path q →
     AllReached (gap_stages key.automaton (parent_at key i).loc path key.gap key.seen (parent_at key i).rows)
-    × AllHold (gap_rows key.automaton (parent_at key i).loc path key.gap key.seen (parent_at key i).rows) (end_point g)
-gap_of_run key i path q wf is may g l =
-    let a : Automaton = key.automaton in
-    let p : State = parent_at key i in
-    let case = subst (λ n. IsGapCase a n key.seen p.rows) (sym l.same_loc) (gap_case key i wf is may.parent) in
-    let fits : Fits a g.start_loc (path_of g) = subst (λ n. Fits a n (path_of g)) (sym l.same_loc) (subst (Fits a p.loc) (sym l.along) may.fits) in
-    let there = gap_there a wf key.gap key.seen p.rows g case fits l.sized l.gap_run l.passes l.allowed in
-    subst (λ n. AllReached (gap_stages a n path key.gap key.seen p.rows) × AllHold (gap_rows a n path key.gap key.seen p.rows) (end_point g)) l.same_loc
-    (subst (λ w. AllReached (gap_stages a g.start_loc w key.gap key.seen p.rows) × AllHold (gap_rows a g.start_loc w key.gap key.seen p.rows) (end_point g)) l.along there)
+    × AllHold (gap_rows key.automaton (parent_at key i).loc path key.gap key.seen (parent_at key i).rows) q
+gap_reached key i path q wf is may e =
+    let state : IsState key.automaton (parent_at key i) = is.belief i no_state may.parent in
+    end_there key i path (parent_at key i).rows q wf is state.loc may.fits state.wide (λ p hp lp h. h) e
 
 pub all_reached : (key : Key) (i : ℕ) (path : List ℕ) (q : Point) → IsWellFormed key.automaton → IsKey key → MayTake key i path → IsEnd key i path q →
     AllReached (gap_stages key.automaton (parent_at key i).loc path key.gap key.seen (parent_at key i).rows)
-all_reached key i path q wf is may e = let (g, l) = e.reached in (gap_of_run key i path q wf is may g l).0
+all_reached key i path q wf is may e = (gap_reached key i path q wf is may e).0
 
 pub gap_exact : (key : Key) (i : ℕ) (path : List ℕ) (q : Point) → IsWellFormed key.automaton → IsKey key → MayTake key i path → pos 0 <ℤ q.den → length q.num ≡ width key.automaton →
     AllHold (gap_rows key.automaton (parent_at key i).loc path key.gap key.seen (parent_at key i).rows) q ↔ IsEnd key i path q
@@ -51,8 +43,5 @@ gap_exact key i path q wf is may hq lq =
             sized = lq;
             reached = (b.gap, record { same_loc = b.loc; sized = b.sized; allowed = b.starts; along = b.along; gap_run = b.gap_run; passes = b.passes; same_point = b.ends });
           }),
-      λ e. (
-          let (g, l) = e.reached in
-          let there = (gap_of_run key i path q wf is may g l).1 in
-          all_same (gap_rows a p.loc path key.gap key.seen p.rows) (end_point g) q l.gap_run.positive hq l.same_point there),
+      λ e. (gap_reached key i path q wf is may e).1,
     )

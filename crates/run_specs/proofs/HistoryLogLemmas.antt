@@ -1,20 +1,21 @@
 -- The log of a history is a log, and each log that has the history's entries begins with it.
-use Rattle.std.proofs.Common.{◌≡◌, ℕ, List, [], ◌∷◌, length, take, refl, sym, ◌∙◌, ap, ap₂, subst, arith, ℤ, pos, ◌+ℤ◌, ◌-ℤ◌, ◌*ℤ◌, ◌<ℤ◌, Option}
+use Rattle.std.proofs.Common.{◌≡◌, ℕ, zero, suc, List, [], ◌∷◌, length, take, refl, sym, ◌∙◌, ap, ap₂, subst, arith, ℤ, pos, ◌+ℤ◌, ◌-ℤ◌, ◌*ℤ◌, ◌<ℤ◌, Option}
 use Rattle.std.specs.Prelude.{All}
 use Rattle.std.proofs.lemmas.Int.{ints}
-use Rattle.std.proofs.lemmas.List.Elements.{All-nil, All-cons, All-head, All-tail}
+use Rattle.std.proofs.lemmas.List.Elements.{All-nil, All-cons, All-head, All-tail, All-take}
 use Rattle.poly_specs.proofs.IntLemmas.{products, expand, add_mul, product_positive}
 use Rattle.poly_specs.proofs.FractionLemmas.{AtMost-trans, Below-AtMost_trans, same-AtMost}
 use Rattle.poly_specs.proofs.LowestLemmas.{lowest-IsFraction, lowest-same, lowest-stays, same-lowest}
 use Rattle.poly_specs.specs.Fractions.{Fraction, IsFraction, SameFraction, AtMost, Below, sum_of, difference, zero_fraction}
 use Rattle.poly_specs.specs.Arithmetic.{lowest}
+use Rattle.poly_specs.specs.LowestTerms.{IsLowest}
 use Rattle.run_specs.specs.Automaton.{Automaton, width}
 use Rattle.run_specs.specs.Logs.{Sample, IsSample, IsLog, RiseFrom, TimesRise}
 use Rattle.run_specs.specs.Keys.{State}
 use Rattle.run_specs.specs.Outcomes.{Outcome, Next, Passed}
 use Rattle.run_specs.specs.SessionHistories.{Entry, IsEntry, SessionHistory, IsHistory, AreLinked, LaterGapsLast, states, opening_states}
 use Rattle.run_specs.specs.Sessions.{MonitorSession, IsMonitorSession, AreEntriesOf}
-use Rattle.run_specs.specs.HistoryLogs.{time_after, samples_after, log_of}
+use Rattle.run_specs.specs.HistoryLogs.{time_after, samples_after, log_of, AgreeFrom, DoAgree}
 
 -- ---- sums and differences of times
 
@@ -140,6 +141,31 @@ samples_are_these m t (s ∷ ss) (e ∷ es) ht all h =
     (ap₂ (λ (u : Fraction) (cells : List (Option Fraction)). record { time = u; cells = cells }) (sym time) (sym h.1))
     (rest ∙ ap (λ u. samples_after u es) (sym time))
 
+-- ---- logs that agree
+
+-- two times, each in lowest terms, after gaps of one length from one time
+same_time : (t s r : Fraction) → IsFraction t → IsLowest s → IsLowest r → SameFraction (difference s t) (difference r t) → s ≡ r
+same_time t s r ht is other same =
+    let gap : Fraction = difference s t in
+    let hg : IsFraction gap = product_positive s.den t.den is.positive ht in
+    let sum : Fraction = sum_of t gap in
+    let hs : IsFraction sum = product_positive t.den gap.den ht hg in
+    sym is.lowest_terms ∙ sym (same-lowest sum s hs is.positive (difference_back t s gap refl)) ∙ same-lowest sum r hs other.positive (difference_back t r gap same) ∙ other.lowest_terms
+
+agree_equal : (m : ℕ) (t u : Fraction) (ss rs : List Sample) → t ≡ u → IsFraction t → All (IsSample m) ss → All (IsSample m) rs → AgreeFrom t u ss rs → ss ≡ rs
+agree_equal m t u [] [] e ht all others h = refl
+agree_equal m t u [] (r ∷ rs) e ht all others h = absurd h
+agree_equal m t u (s ∷ ss) [] e ht all others h = absurd h
+agree_equal m t u (s ∷ ss) (r ∷ rs) e ht all others h =
+    let here = All-head (IsSample m) s ss all in
+    let there = All-head (IsSample m) r rs others in
+    let time : s.time ≡ r.time = same_time t s.time r.time ht here.time there.time (subst (λ x. SameFraction (difference s.time t) (difference r.time x)) (sym e) h.0) in
+    ap₂ (λ (x : Sample) (xs : List Sample). x ∷ xs) (ap₂ (λ (x : Fraction) (cells : List (Option Fraction)). record { time = x; cells = cells }) time h.1)
+    (agree_equal m s.time r.time ss rs time here.time.positive (All-tail (IsSample m) s ss all) (All-tail (IsSample m) r rs others) h.2)
+
+pub logs_equal : (m : ℕ) (samples others : List Sample) → IsLog m samples → IsLog m others → DoAgree samples others → samples ≡ others
+logs_equal m samples others is other h = agree_equal m zero_fraction zero_fraction samples others refl (record { lt = tt }) is.each other.each h
+
 -- ---- histories
 
 -- a log that has the entries of this history
@@ -160,8 +186,8 @@ history_has_log h is =
       entries = samples_have h.automaton zero_fraction h.gaps all (record { lt = tt });
     }
 
-pub log_is_this : (h : SessionHistory) (log : List Sample) → HasLog h log → take (length h.gaps) log ≡ log_of h
-log_is_this h log is = samples_are_these (width h.automaton) zero_fraction log h.gaps (record { lt = tt }) is.is_log.each is.entries
+pub log_is_this : (h : SessionHistory) (log : List Sample) → IsLog (width h.automaton) log → AreEntriesOf zero_fraction log h.gaps → take (length h.gaps) log ≡ log_of h
+log_is_this h log is entries = samples_are_these (width h.automaton) zero_fraction log h.gaps (record { lt = tt }) is.each entries
 
 pub log_length : (h : SessionHistory) → length (log_of h) ≡ length h.gaps
 log_length h = go zero_fraction h.gaps
@@ -169,3 +195,49 @@ log_length h = go zero_fraction h.gaps
     go : (t : Fraction) (es : List Entry) → length (samples_after t es) ≡ length es
     go t [] = refl
     go t (e ∷ es) = let r = go (time_after t e) es in omega (arith, r)
+
+-- ---- beginnings
+
+-- the history of the first gaps
+abbrev pub first_gaps : ℕ → SessionHistory → SessionHistory
+first_gaps i h = record h { gaps = take i h.gaps }
+
+samples-take : (t : Fraction) (i : ℕ) (es : List Entry) → samples_after t (take i es) ≡ take i (samples_after t es)
+samples-take t zero es = refl
+samples-take t (suc i) [] = refl
+samples-take t (suc i) (e ∷ es) =
+    ap (λ (ss : List Sample). record { time = time_after t e; cells = e.key.seen } ∷ ss) (samples-take (time_after t e) i es)
+
+pub log-first : (h : SessionHistory) (i : ℕ) → log_of (first_gaps i h) ≡ take i (log_of h)
+log-first h i = samples-take zero_fraction i h.gaps
+
+none-take : (i : ℕ) (es : List Entry) → es ≡ [] → take i es ≡ []
+none-take zero es e = refl
+none-take (suc i) [] e = refl
+none-take (suc i) (x ∷ es) e = absurd (let f : ⊥ = cc in f)
+
+linked-take : (a : Automaton) (k : ℕ) (belief : List State) (i : ℕ) (es : List Entry) → AreLinked a k belief es → AreLinked a k belief (take i es)
+linked-take a k belief zero es h = tt
+linked-take a k belief (suc i) [] h = tt
+linked-take a k belief (suc i) (e ∷ es) h = (h.0, h.1, h.2, h.3, next (λ b l. linked-take a k b i es l) e.outcome h.4)
+  where
+    next : ((b : List State) → AreLinked a k b es → AreLinked a k b (take i es)) →
+        (o : Outcome) → elim o as (λ _. Type 0) [ Next items ↦ AreLinked a k (states items) es | Passed ↦ es ≡ [] ] →
+        elim o as (λ _. Type 0) [ Next items ↦ AreLinked a k (states items) (take i es) | Passed ↦ take i es ≡ [] ]
+    next later (Next items) l = later (states items) l
+    next later Passed l = none-take i es l
+
+gaps-take : (i : ℕ) (es : List Entry) → LaterGapsLast es → LaterGapsLast (take i es)
+gaps-take zero es h = tt
+gaps-take (suc i) [] h = tt
+gaps-take (suc i) (e ∷ es) h = All-take (λ x. Below zero_fraction x.key.gap) i es h
+
+pub history-first : (h : SessionHistory) (i : ℕ) → IsHistory h → IsHistory (first_gaps i h)
+history-first h i is = record {
+  automaton = is.automaton;
+  jumps = is.jumps;
+  opening = is.opening;
+  not_opened = λ e. none-take i h.gaps (is.not_opened e);
+  linked = linked-take h.automaton h.jumps (opening_states h) i h.gaps is.linked;
+  later_gaps = gaps-take i h.gaps is.later_gaps;
+}

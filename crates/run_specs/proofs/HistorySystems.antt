@@ -239,6 +239,12 @@ passing_system a cells k are h =
 
 -- ---- the systems of paths, gaps and runs
 
+pub same_or_not : (x y : ℕ) → (x ≡ y) ⊎ (x ≡ y → ⊥)
+same_or_not x y = elim (cases_lt x y) [
+  | inl lt ↦ inr (λ e. omega (arith, e, lt))
+  | inr ge ↦ elim (cases_lt y x) [ inl gt ↦ inr (λ e. omega (arith, e, gt)) | inr le ↦ inl (omega (arith, ge, le)) ]
+]
+
 module _ (a : Automaton) (locs : All (IsLocation (width a)) a.locations) where
   leg_after : (l n : ℕ) (P : ℤ → List ℤ → Type 0) → width a ≤ n → IsSystem n P → IsSystem (suc (width a) + n) (LegAfter a l P)
   leg_after l n P h s =
@@ -253,12 +259,6 @@ module _ (a : Automaton) (locs : All (IsLocation (width a)) a.locations) where
       (λ d ns hd len. (λ g. (g.0, g.1.0, g.1.1), λ g. (g.0, (g.1, g.2))))
       (both (m + n) (λ d ns. P d (drop m ns)) (λ d ns. (source ≡ l) × J d ns) (dropped n P m s)
       (when (m + n) (source ≡ l) J (same_or_not source l) (jump_system a e (m + n) (omega (arith, h)))))
-    where
-      same_or_not : (x y : ℕ) → (x ≡ y) ⊎ (x ≡ y → ⊥)
-      same_or_not x y = elim (cases_lt x y) [
-        | inl lt ↦ inr (λ e. omega (arith, e, lt))
-        | inr ge ↦ elim (cases_lt y x) [ inl gt ↦ inr (λ e. omega (arith, e, gt)) | inr le ↦ inl (omega (arith, ge, le)) ]
-      ]
 
   path_wide : (path : List ℕ) (n : ℕ) → width a ≤ n → width a ≤ path_columns (width a) path n
   path_wide [] n h = omega (arith, h)

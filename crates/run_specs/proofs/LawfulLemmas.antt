@@ -1,4 +1,4 @@
--- A session's history tells the verdict of its log: its states are where runs of the log end.
+-- A history tells the verdict of each log with its entries: its states are where runs of the log end.
 use Rattle.std.proofs.Common.{◌≡◌, ◌≢◌, inl, inr, ℕ, zero, suc, ◌<◌, Bool, true, false, ◌||◌, List, [], ◌∷◌, ◌++◌, append_assoc, length, take, Option, Some, None, refl, sym, ◌∙◌, ap, subst, arith}
 use Rattle.std.specs.Prelude.{All, if◌then◌else◌}
 use Rattle.std.proofs.lemmas.List.{length-append}
@@ -6,6 +6,7 @@ use Rattle.std.proofs.lemmas.List.Elements.{All-head, All-tail}
 use Rattle.run_specs.proofs.RunLemmas.{IsRun-prefix}
 use Rattle.run_specs.proofs.SessionLemmas.{last_from}
 use Rattle.run_specs.proofs.RunEndLemmas.{marked, before_gap, gap_start, IsKeyOf, last_from-append, key_of}
+use Rattle.run_specs.proofs.HistoryLogLemmas.{HasLog}
 use Rattle.run_specs.proofs.StateHistoryLemmas.{AreFollowed, opening_are, number_of, item_number}
 use Rattle.run_specs.proofs.StateLemmas.{entry_are, mark_visits, state_of_run, run_of_state}
 use Rattle.poly_specs.specs.Lists.{In}
@@ -20,8 +21,8 @@ use Rattle.run_specs.specs.Histories.{History}
 use Rattle.run_specs.specs.Keys.{State}
 use Rattle.run_specs.specs.Outcomes.{Item, Outcome, Next, Passed, IsExact}
 use Rattle.run_specs.specs.Openings.{IsOpening}
-use Rattle.run_specs.specs.SessionHistories.{Entry, AreLinked, states, some_marked, verdict_of, verdict_after, verdict_at, opening_states}
-use Rattle.run_specs.specs.Sessions.{MonitorSession, IsMonitorSession, AreEntriesOf}
+use Rattle.run_specs.specs.SessionHistories.{Entry, SessionHistory, AreLinked, states, some_marked, verdict_of, verdict_after, verdict_at, opening_states}
+use Rattle.run_specs.specs.Sessions.{AreEntriesOf}
 use Rattle.run_specs.specs.StateHistories.{opening_histories, item_histories}
 
 -- ---- the verdict of a log of at least one sample
@@ -131,19 +132,19 @@ lawful_at a k m before belief hs (s ∷ ss) (x ∷ es) t (suc i) v step linked e
         subst (λ log. IsLawful a k log v) (append_assoc before (s ∷ []) (take (suc i) ss))
         (later (states items) (item_histories hs items) (entry_are a k before s belief hs x.key items linked.1 linked.2 linked.3 key exact step) l e)
 
--- ---- sessions
+-- ---- histories
 
-pub session_lawful : (s : MonitorSession) (i : ℕ) (v : Verdict) → IsMonitorSession s → i < length s.log → verdict_at s.history i ≡ Some v → v ≢ Overflow →
-    IsLawful s.history.automaton s.history.jumps (take (suc i) s.log) v
-session_lawful s i v is h e n = go s.history.opening refl is.history.opening e
+pub history_lawful : (hist : SessionHistory) (log : List Sample) (i : ℕ) (v : Verdict) → HasLog hist log → i < length log → verdict_at hist i ≡ Some v → v ≢ Overflow →
+    IsLawful hist.automaton hist.jumps (take (suc i) log) v
+history_lawful hist log i v is h e n = go hist.opening refl is.history.opening e
   where
-    go : (o : Option (List State)) → s.history.opening ≡ o → IsOpening s.history.automaton o →
-        elim o as (λ _. Option Verdict) [ None ↦ Some Overflow | Some belief ↦ verdict_after belief s.history.gaps i ] ≡ Some v →
-        IsLawful s.history.automaton s.history.jumps (take (suc i) s.log) v
+    go : (o : Option (List State)) → hist.opening ≡ o → IsOpening hist.automaton o →
+        elim o as (λ _. Option Verdict) [ None ↦ Some Overflow | Some belief ↦ verdict_after belief hist.gaps i ] ≡ Some v →
+        IsLawful hist.automaton hist.jumps (take (suc i) log) v
     go None f opening e = absurd (n (let g : Overflow ≡ v = cc in sym g))
     go (Some belief) f opening e =
-        let a : Automaton = s.history.automaton in
-        let k : ℕ = s.history.jumps in
-        let states_are : opening_states s.history ≡ belief = ap (λ o. elim o as (λ _. List State) [ None ↦ [] | Some b ↦ b ]) f in
-        lawful_at a k (width a) [] belief (opening_histories belief) s.log s.history.gaps zero_fraction i v (opening_are a k belief opening)
-        (subst (λ b. AreLinked a k b s.history.gaps) states_are is.history.linked) is.entries refl (record { lt = tt }) is.log.each e n h
+        let a : Automaton = hist.automaton in
+        let k : ℕ = hist.jumps in
+        let states_are : opening_states hist ≡ belief = ap (λ o. elim o as (λ _. List State) [ None ↦ [] | Some b ↦ b ]) f in
+        lawful_at a k (width a) [] belief (opening_histories belief) log hist.gaps zero_fraction i v (opening_are a k belief opening)
+        (subst (λ b. AreLinked a k b hist.gaps) states_are is.history.linked) is.entries refl (record { lt = tt }) is.is_log.each e n h

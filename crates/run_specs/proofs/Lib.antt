@@ -26,6 +26,9 @@ pub mod GapPasses
 pub mod OverflowLemmas
 pub mod GapBack
 pub mod GapExact
+pub mod RowDecisions
+pub mod PathLists
+pub mod SomeOutcome
 pub mod PlainStates
 pub mod ReplyLemmas
 pub mod SystemLemmas

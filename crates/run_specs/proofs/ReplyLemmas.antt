@@ -1,11 +1,12 @@
--- What a session tells of its log is lawful, an overflow too.
+-- What a history tells of a log with its entries is lawful, an overflow too.
 use Rattle.std.proofs.Common.{◌≡◌, ℕ, zero, suc, ◌<◌, Bool, true, false, List, [], ◌∷◌, ◌++◌, append_assoc, length, take, Option, Some, None, refl, sym, ◌∙◌, ap, subst, arith}
 use Rattle.std.specs.Prelude.{All, slice_get, if◌then◌else◌}
 use Rattle.std.specs.List.{AllByRecursion}
 use Rattle.std.proofs.lemmas.List.Elements.{All-head, All-tail, All-from_recursion}
 use Rattle.poly_specs.proofs.IntLemmas.{product_positive}
 use Rattle.run_specs.proofs.PassesLemmas.{LogPasses-longer, LogPasses-opening}
-use Rattle.run_specs.proofs.LawfulLemmas.{session_lawful}
+use Rattle.run_specs.proofs.HistoryLogLemmas.{HasLog, session_has_log}
+use Rattle.run_specs.proofs.LawfulLemmas.{history_lawful}
 use Rattle.run_specs.proofs.OverflowLemmas.{HaveHistories, IsGapOf, opening_histories, items_histories, key_passes}
 use Rattle.poly_specs.specs.Fractions.{Fraction, IsFraction, zero_fraction}
 use Rattle.run_specs.specs.declared.Verdict.{Verdict}
@@ -111,29 +112,33 @@ passes_at a k m before belief (s ∷ ss) (x ∷ es) t (suc i) wf old linked entr
         subst (LogPasses a k) (append_assoc before (s ∷ []) (take (suc i) ss))
         (later (states items) (entry_histories a k before t s belief x.key items wf (key_after a k m belief t s ss x es linked entries ht all) old exact) l e)
 
--- ---- sessions
+-- ---- histories
 
-session_passes : (s : MonitorSession) (i : ℕ) → IsMonitorSession s → i < length s.log → verdict_at s.history i ≡ Some Overflow →
-    LogPasses s.history.automaton s.history.jumps (take (suc i) s.log)
-session_passes s i is h e = go s.history.opening refl is.history.opening e
+history_passes : (hist : SessionHistory) (log : List Sample) (i : ℕ) → HasLog hist log → i < length log → verdict_at hist i ≡ Some Overflow →
+    LogPasses hist.automaton hist.jumps (take (suc i) log)
+history_passes hist log i is h e = go hist.opening refl is.history.opening e
   where
-    go : (o : Option (List State)) → s.history.opening ≡ o → IsOpening s.history.automaton o →
-        elim o as (λ _. Option Verdict) [ None ↦ Some Overflow | Some belief ↦ verdict_after belief s.history.gaps i ] ≡ Some Overflow →
-        LogPasses s.history.automaton s.history.jumps (take (suc i) s.log)
-    go None f opening e = LogPasses-opening s.history.automaton s.history.jumps (take (suc i) s.log) opening
+    go : (o : Option (List State)) → hist.opening ≡ o → IsOpening hist.automaton o →
+        elim o as (λ _. Option Verdict) [ None ↦ Some Overflow | Some belief ↦ verdict_after belief hist.gaps i ] ≡ Some Overflow →
+        LogPasses hist.automaton hist.jumps (take (suc i) log)
+    go None f opening e = LogPasses-opening hist.automaton hist.jumps (take (suc i) log) opening
     go (Some belief) f opening e =
-        let a : Automaton = s.history.automaton in
-        let k : ℕ = s.history.jumps in
-        let states_are : opening_states s.history ≡ belief = ap (λ o. elim o as (λ _. List State) [ None ↦ [] | Some b ↦ b ]) f in
-        passes_at a k (width a) [] belief s.log s.history.gaps zero_fraction i is.history.automaton (opening_histories a k belief is.history.automaton opening)
-        (subst (λ b. AreLinked a k b s.history.gaps) states_are is.history.linked) is.entries (record { lt = tt }) is.log.each e h
+        let a : Automaton = hist.automaton in
+        let k : ℕ = hist.jumps in
+        let states_are : opening_states hist ≡ belief = ap (λ o. elim o as (λ _. List State) [ None ↦ [] | Some b ↦ b ]) f in
+        passes_at a k (width a) [] belief log hist.gaps zero_fraction i is.history.automaton (opening_histories a k belief is.history.automaton opening)
+        (subst (λ b. AreLinked a k b hist.gaps) states_are is.history.linked) is.entries (record { lt = tt }) is.is_log.each e h
+
+pub history_all_lawful : (hist : SessionHistory) (log : List Sample) (i : ℕ) (v : Verdict) → HasLog hist log → i < length log → verdict_at hist i ≡ Some v →
+    IsLawful hist.automaton hist.jumps (take (suc i) log) v
+history_all_lawful hist log i Overflow is h e = history_passes hist log i is h e
+history_all_lawful hist log i Alarm is h e = history_lawful hist log i Alarm is h e (λ f. cc)
+history_all_lawful hist log i Safe is h e = history_lawful hist log i Safe is h e (λ f. cc)
+history_all_lawful hist log i Impossible is h e = history_lawful hist log i Impossible is h e (λ f. cc)
 
 pub session_all_lawful : (s : MonitorSession) (i : ℕ) (v : Verdict) → IsMonitorSession s → i < length s.log → verdict_at s.history i ≡ Some v →
     IsLawful s.history.automaton s.history.jumps (take (suc i) s.log) v
-session_all_lawful s i Overflow is h e = session_passes s i is h e
-session_all_lawful s i Alarm is h e = session_lawful s i Alarm is h e (λ f. cc)
-session_all_lawful s i Safe is h e = session_lawful s i Safe is h e (λ f. cc)
-session_all_lawful s i Impossible is h e = session_lawful s i Impossible is h e (λ f. cc)
+session_all_lawful s i v is h e = history_all_lawful s.history s.log i v (session_has_log s is) h e
 
 -- ---- the replies to a log
 

@@ -21,6 +21,7 @@ pub mod first_runs;
 pub mod histories;
 pub mod history_logs;
 pub mod history_states;
+pub mod outcomes;
 pub mod sessions;
 pub mod states;
 pub mod worlds;
