@@ -15,10 +15,11 @@ use Rattle.report_specs.specs.Lines.{lines_of}
 use Rattle.report_specs.specs.Report.{AreBlocks, IsReport}
 use Rattle.log_specs.specs.declared.LogForm.{LogForm}
 use Rattle.log_specs.specs.declared.LogForm.TheVariants.{Check, Watch}
-use Rattle.log_specs.specs.LogSessions.{LogSession, Judgement, passed_over, refused, opened, closed, flushed, accepted}
+use Rattle.log_specs.specs.declared.Refusal.TheVariants as why
+use Rattle.log_specs.specs.LogSessions.{LogSession, Judgement, passed_over, refused, opened, closed, flushed, accepted, judge}
 use Rattle.log_specs.specs.Blocks.{LastReply, IsAnswered, IsBlock, refusal_word, subject, last_of}
 use Rattle.log_specs.specs.LogReports.{Known, nothing_known, judgement, known_after, rules_of}
-use Rattle.log_specs.specs.Examples.{task_in, refused_log, refused_report, reopened_log, reopened_report, headless_log, headless_report, timed_log, timed_report, number_log, number_report, all_impossible}
+use Rattle.log_specs.specs.Examples.{task_in, empty_tank, crowded, doubled_log, doubled_report, refused_log, refused_report, reopened_log, reopened_report, headless_log, headless_report, timed_log, timed_report, number_log, number_report, all_impossible}
 
 -- a block, or several, and the replies in it
 record Part : Type 0 where
@@ -193,3 +194,19 @@ reopened_is = parts_are Watch nothing_known 1 (lines_of reopened_log) (record { 
 
 pub headless_is : IsReport (rules_of (task_in Check)) headless_log headless_report []
 headless_is = parts_are Check nothing_known 1 (lines_of headless_log) (record { bytes = headless_report; replies = [] }) headless_parts
+
+doubled_parts : parts_of Watch nothing_known 1 (lines_of doubled_log) ≡ Some (record { bytes = doubled_report; replies = all_impossible 1 })
+unfolding csv_on_literals is_utf8 chars lib.Utf8.encode digits gcd
+doubled_parts = refl
+
+pub doubled_is : IsReport (rules_of (task_in Watch)) doubled_log doubled_report (all_impossible 1)
+doubled_is = parts_are Watch nothing_known 1 (lines_of doubled_log) (record { bytes = doubled_report; replies = all_impossible 1 }) doubled_parts
+
+pub limits_are : (judge Watch (empty_tank ∷ []) (crowded 1000 0) (codes "open,r,T,y") ≡ refused why.Column)
+    × (judge Watch (empty_tank ∷ []) (crowded 1000 0) (codes "open,r,T,x") ≡ refused why.Limit)
+    × (judge Watch (empty_tank ∷ []) (crowded 999 0) (codes "open,r,T,x")
+    ≡ opened (record { name = codes "r"; automaton = empty_tank; columns = codes "x" ∷ []; samples = [] }))
+    × (judge Watch (empty_tank ∷ []) (crowded 1 200000) (codes "at,s,5,0") ≡ refused why.Time)
+    × (judge Watch (empty_tank ∷ []) (crowded 1 200000) (codes "at,s,6,0") ≡ refused why.Limit)
+unfolding csv_on_literals is_utf8 chars lib.Utf8.encode digits gcd
+limits_are = (refl, refl, refl, refl, refl)

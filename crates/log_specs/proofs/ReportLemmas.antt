@@ -65,7 +65,7 @@ run_part_unique a k log false x y wf nx ny p q = p ∙ sym q
 run_part_unique a k log true x y wf nx ny (inr p) q = absurd (nx (codes "+ ") [] p.1)
 run_part_unique a k log true x y wf nx ny (inl p) (inr q) = absurd (ny (codes "+ ") [] q.1)
 run_part_unique a k log true x y wf nx ny (inl p) (inl q) =
-    p.2 ∙ ap (λ (gaps : List GapRun). printed_run (record { start = p.0.start; gaps = gaps })) (one_first_run a k log to_alarm p.0 q.0 wf p.1 q.1).0 ∙ sym q.2
+    p.3 ∙ ap (λ (gaps : List GapRun). printed_run (record { start = p.0.start; gaps = gaps })) (one_first_run a k log to_alarm p.0 q.0 wf p.1 q.1).0 ∙ sym q.3
 
 no_overflow : (task : Task) (last : Option Verdict) (n : ℕ) (s : LogSession) (sample : Sample) (v : Verdict) (x : List ℕ) → HasNoOverflowWord x →
     IsAnswered task last n s sample v x → v ≡ Overflow → ⊥

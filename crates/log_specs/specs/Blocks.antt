@@ -16,7 +16,7 @@ use Rattle.log_specs.specs.declared.Refusal.TheVariants as why
 use Rattle.log_specs.specs.declared.RunsMode.{RunsMode}
 use Rattle.log_specs.specs.declared.RunsMode.TheVariants as mode
 use Rattle.log_specs.specs.LogSessions.{LogSession, Judgement, passed_over, refused, opened, closed, flushed, accepted}
-use Rattle.replay_specs.specs.RunTexts.{run_lines, ended_lines}
+use Rattle.replay_specs.specs.RunTexts.{run_lines, ended_lines, IsWritable}
 
 -- what a report is made for: how the log is read, the automata of the file, the jumps allowed in each gap, and which runs are printed
 pub record Task : Type 0 where
@@ -110,11 +110,12 @@ printed_run run = ended_lines (map (λ line. codes "+ " ++ line) (run_lines run.
 abbrev pub printed_overflow : List ℕ
 printed_overflow = codes "+ overflow\n"
 
--- what stands behind a reply: where a run is wanted, the first run of the log, or an overflow of a log whose run passes
+-- what stands behind a reply: where a run is wanted, the first run of the log, which has a text, or an overflow of a log whose run passes
 abbrev pub IsRunPart : Automaton → ℕ → List Sample → Bool → List ℕ → Type 0
 IsRunPart a k samples false bytes = bytes ≡ []
 IsRunPart a k samples true bytes =
-    ((run : Run) × IsFirstRun a k samples to_alarm run × (bytes ≡ printed_run run)) ⊎ (RunPasses a k samples to_alarm × (bytes ≡ printed_overflow))
+    ((run : Run) × IsFirstRun a k samples to_alarm run × IsWritable run.gaps × (bytes ≡ printed_run run))
+    ⊎ (RunPasses a k samples to_alarm × (bytes ≡ printed_overflow))
 
 -- ---- blocks
 

@@ -1,5 +1,5 @@
 -- Small logs and their reports, and a run and its text.
-use Rattle.std.specs.Prelude.{ℕ, List, [], ◌∷◌, replicate, codes, pos, negsuc}
+use Rattle.std.specs.Prelude.{ℕ, List, [], ◌∷◌, true, replicate, codes, pos, negsuc, None}
 use Rattle.poly_specs.specs.Fractions.{zero_fraction}
 use Rattle.poly_specs.specs.Rows.{over}
 use Rattle.run_specs.specs.Automaton.{Automaton}
@@ -9,6 +9,7 @@ use Rattle.run_specs.specs.declared.Verdict.TheVariants.{Impossible}
 use Rattle.log_specs.specs.declared.LogForm.{LogForm}
 use Rattle.log_specs.specs.declared.RunsMode.TheVariants.{First}
 use Rattle.replay_specs.specs.RunTexts.{ended_lines}
+use Rattle.log_specs.specs.LogSessions.{LogState}
 use Rattle.log_specs.specs.Blocks.{Task}
 
 -- an automaton of one variable and no location, so that no log has a run
@@ -32,6 +33,27 @@ abbrev pub refused_report : List ℕ
 refused_report = ended_lines (
     codes "2,refused,again" ∷ codes "3,refused,unknown" ∷ codes "4,refused,column" ∷ codes "5,refused,cells" ∷ codes "6,refused,cells"
     ∷ codes "7,refused,unknown" ∷ codes "9,refused,unknown" ∷ codes "10,refused,fields" ∷ codes "11,refused,name" ∷ codes "12,refused,number" ∷ [])
+
+-- rows that are refused for two causes
+abbrev pub doubled_log : List ℕ
+doubled_log = ended_lines (codes "open,s,T,x" ∷ codes "open,s,Z,x" ∷ codes "at,s,5,0" ∷ codes "at,s,3,0,0" ∷ codes "at,a b,z,0" ∷ [])
+
+-- its report: a name that is open goes before an automaton that is none, the count of cells before the time, a name before a number
+abbrev pub doubled_report : List ℕ
+doubled_report = ended_lines (codes "2,refused,again" ∷ codes "3,s,impossible" ∷ codes "4,refused,cells" ∷ codes "5,refused,name" ∷ [])
+
+-- so many sessions are open, with a sample at time 5, and so many samples were accepted
+abbrev pub crowded : ℕ → ℕ → LogState
+crowded sessions accepted = record {
+  open_sessions = replicate sessions (record {
+    name = codes "s";
+    automaton = empty_tank;
+    columns = codes "x" ∷ [];
+    samples = record { time = record { num = pos 5; den = pos 1 }; cells = None ∷ [] } ∷ [];
+  });
+  accepted = accepted;
+  has_begun = true;
+}
 
 -- a session that is closed and opened anew, and times that do not rise
 abbrev pub reopened_log : List ℕ

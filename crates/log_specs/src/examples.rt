@@ -7,12 +7,29 @@ ghost use Rattle.log_specs.specs.declared.LogForm.TheVariants.{Check, Watch};
 ghost use Rattle.log_specs.specs.Fields.{fields_of, is_long};
 ghost use Rattle.replay_specs.specs.RunTexts.{run_text};
 ghost use Rattle.log_specs.specs.Blocks.{printed_run};
+ghost use Rattle.log_specs.specs.declared.Refusal.TheVariants as why;
+ghost use Rattle.log_specs.specs.LogSessions.{judge, refused, opened};
 ghost use Rattle.log_specs.specs.LogReports.{rules_of};
-ghost use Rattle.log_specs.specs.Examples.{task_in, refused_log, refused_report, reopened_log, reopened_report, headless_log, headless_report, timed_log, timed_report, number_log, number_report, all_impossible, thirds, thirds_text, below_zero, below_zero_text};
+ghost use Rattle.log_specs.specs.Examples.{task_in, refused_log, refused_report, doubled_log, doubled_report, empty_tank, crowded, reopened_log, reopened_report, headless_log, headless_report, timed_log, timed_report, number_log, number_report, all_impossible, thirds, thirds_text, below_zero, below_zero_text};
 
 /// Each refused row has its word, the number of its line counts the accepted ones too, and a refused row changes nothing.
 pub fn refused_rows()
     ensures { IsReport (rules_of (task_in Watch)) refused_log refused_report [] }
+{}
+
+/// Of two causes the first in the order of the words is told.
+pub fn doubly_refused_rows()
+    ensures { IsReport (rules_of (task_in Watch)) doubled_log doubled_report (all_impossible 1) }
+{}
+
+/// A thousand sessions may be open, and 200,000 samples accepted; a wrong column and a time that does not rise are told before these limits.
+pub fn refused_limits()
+    ensures { (judge Watch (empty_tank ∷ []) (crowded 1000 0) (codes "open,r,T,y") ≡ refused why.Column)
+        × (judge Watch (empty_tank ∷ []) (crowded 1000 0) (codes "open,r,T,x") ≡ refused why.Limit)
+        × (judge Watch (empty_tank ∷ []) (crowded 999 0) (codes "open,r,T,x")
+        ≡ opened (record { name = codes "r"; automaton = empty_tank; columns = codes "x" ∷ []; samples = [] }))
+        × (judge Watch (empty_tank ∷ []) (crowded 1 200000) (codes "at,s,5,0") ≡ refused why.Time)
+        × (judge Watch (empty_tank ∷ []) (crowded 1 200000) (codes "at,s,6,0") ≡ refused why.Limit) }
 {}
 
 /// A session that is closed and opened anew begins anew, and its replies name it.

@@ -1,8 +1,8 @@
 //! Trees whose automata and faults compute.
 
-ghost use Rattle.std.specs.Prelude.{◌≡◌, [], ◌∷◌, pos, negsuc, true, Some, None, codes};
+ghost use Rattle.std.specs.Prelude.{◌≡◌, [], ◌∷◌, ◌++◌, take, drop, pos, negsuc, true, Some, None, codes};
 ghost use Rattle.poly_specs.specs.Fractions.{zero_fraction};
-ghost use Rattle.lang_specs.specs.declared.Sign.TheVariants.{AtMost, Greater};
+ghost use Rattle.lang_specs.specs.declared.Sign.TheVariants.{AtMost, AtLeast, Greater};
 ghost use Rattle.lang_specs.specs.Trees.{Set, Within, Free};
 ghost use Rattle.lang_specs.specs.Examples.{x, y, fraction, whole, number, times, variable, less_term, box};
 ghost use Rattle.model_specs.specs.Automata.{tolerances, constraint_rows, init_rows, invariant_rows, also_rows, automata_of};
@@ -83,4 +83,12 @@ pub fn statements_left_out()
 pub fn numbers_that_pass()
     ensures { (faults_of (kept_in (compared (inverses primes) AtMost (variable x ∷ []) ∷ []) ∷ []) ≡ Passes 6 (codes "T") ∷ [])
         × (faults_of (kept_in (compared (inverses primes) AtMost (variable y ∷ []) ∷ []) ∷ []) ≡ UnknownName 6 y ∷ Passes 6 (codes "T") ∷ []) }
+{}
+
+/// Numbers are added in the order of the text, whatever the sign between them: where 1/p + 1/q + 1/r + 1/s >= 1/s + 1/t + x, with five large primes, the
+/// fourth fraction goes before the fifth comes; where the sides are exchanged, five denominators meet.
+pub fn sums_in_order()
+    ensures { (faults_of (kept_in (compared (inverses (take 4 primes)) AtLeast (inverses (take 2 (drop 3 primes)) ++ variable x ∷ []) ∷ []) ∷ []) ≡ [])
+        × (faults_of (kept_in (compared (inverses (take 2 (drop 3 primes)) ++ variable x ∷ []) AtLeast (inverses (take 4 primes)) ∷ []) ∷ []) ≡ Passes 6 (codes "T") ∷ [])
+        × (faults_of (kept_in (compared (inverses (take 2 (drop 3 primes)) ++ variable x ∷ []) AtMost (inverses (take 4 primes)) ∷ []) ∷ []) ≡ Passes 6 (codes "T") ∷ []) }
 {}
