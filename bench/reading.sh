@@ -1,6 +1,6 @@
 #!/bin/sh
-# Times `speed_bench reading` on one processor: a log of 1,000 short rows is read and parsed a thousand times. What counts is the time of the
-# processor, and not that of the clock, so that other work on the machine does not.
+# Times `speed_bench reading` on one processor: a log of 1,000 short rows is read and parsed a thousand times. What counts is the time
+# of the processor, and not that of the clock, so that other work on the machine does not.
 set -eu
 here=$(CDPATH='' cd -- "$(dirname -- "$0")/.." && pwd)
 crate=$here/crates/speed_bench

@@ -1,6 +1,6 @@
 #!/bin/sh
-# Times `speed_bench step` on one processor: one gap of a model of two locations is taken ten thousand times. What counts is the time of the
-# processor, and not that of the clock, so that other work on the machine does not.
+# Times `speed_bench step` on one processor: one gap of a model of two locations is taken ten thousand times. What counts is the time
+# of the processor, and not that of the clock, so that other work on the machine does not.
 set -eu
 here=$(CDPATH='' cd -- "$(dirname -- "$0")/.." && pwd)
 crate=$here/crates/speed_bench

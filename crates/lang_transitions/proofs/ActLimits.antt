@@ -1,5 +1,5 @@
 -- A list of acts keeps to its limit exactly where the reader finds room.
-use Rattle.std.proofs.Common.{◌≡◌, Bool, true, false, if◌then◌else◌, ◌&&◌, List, [], ◌∷◌, ◌++◌, length, Option, Some, None, refl, sym, ap, ◌∙◌, subst}
+use Rattle.std.proofs.Common.{◌≡◌, Bool, true, false, ◌&&◌, List, [], ◌∷◌, ◌++◌, length, Option, Some, None, refl, sym, ap, ◌∙◌, subst}
 use Rattle.std.specs.Prelude.{ℕ, nat_le}
 use Rattle.std.specs.List.{list_all, flat_map}
 use Rattle.std.proofs.Math.Bool.{and-true}
@@ -12,7 +12,7 @@ use Rattle.lang_specs.specs.Marks.{Mark}
 use Rattle.lang_specs.specs.Trees as trees
 use Rattle.lang_specs.specs.Limits.{has_at_most}
 use Rattle.lang_tokens.specs.Kinds.{same_kind}
-use Rattle.lang_tokens.specs.Machines.{Reading, AllValues, fits_on, listed, passed, passed_alone}
+use Rattle.lang_tokens.specs.Machines.{Reading, AllValues}
 use Rattle.lang_tokens.proofs.Walks.{both}
 use Rattle.lang_tokens.proofs.LimitLemmas.{both_so}
 use Rattle.lang_tokens.proofs.JoinedLaws.{LimitLaws, finish}
@@ -171,16 +171,3 @@ limit_laws = record {
   ended_alike = λ which xs p. moves (reading true xs p) (reading true xs at_act) (λ e. e) which;
   at_end = λ which xs ys h. end_fits which at_act xs ys h;
 }
-
--- ---- the limit that is told at a token
-
-told : (s u : R) (m : Mark) → passed (listed acts) s u m ≡ (if fits_on (fits_acts Terms s) (fits_acts Terms u) m then passed_alone m else Some Terms)
-told s u m =
-    elim (fits_on (fits_acts Terms s) (fits_acts Terms u) m) as (λ b. fits_on (fits_acts Terms s) (fits_acts Terms u) m ≡ b → passed (listed acts) s u m ≡ (if b then passed_alone m else Some Terms)) [
-      | true ↦ λ e. rw e refl
-      | false ↦ λ e. rw e refl
-    ] refl
-
-pub told_by : (s u : R) (m : Mark) (a b : Bool) → a ≡ fits_acts Terms s → b ≡ fits_acts Terms u → (if fits_on a b m then passed_alone m else Some Terms) ≡ passed (listed acts) s u m
-told_by s u m a b h k =
-    ap (λ x. if fits_on x b m then passed_alone m else Some Terms) h ∙ ap (λ x. if fits_on (fits_acts Terms s) x m then passed_alone m else Some Terms) k ∙ sym (told s u m)

@@ -1,24 +1,20 @@
 //! Reads acts, a token at a time.
 
-ghost use Rattle.std.specs.Prelude.{◌≡◌, ◌+◌, ◌<◌, ◌^◌, if◌then◌else◌, length, map, Some, None, IfSome, IfOk, IfErr};
+ghost use Rattle.std.specs.Prelude.{◌≡◌, ◌<◌, if◌then◌else◌, map, Some, None, IfSome, IfOk, IfErr};
 ghost use Rattle.std.specs.List.{list_all};
 ghost use Rattle.lang_specs.specs.declared.Which.TheVariants as which;
 ghost use Rattle.lang_specs.specs.Marks.{mark};
-ghost use Rattle.lang_specs.specs.Tokens as tokens;
-ghost use Rattle.lang_specs.specs.Expressions.{AreJoined, IsAct};
-ghost use Rattle.lang_tokens.specs.LineFaults.{marks, AreLiterals, IsLineWithin, IsLineFault};
 ghost use Rattle.lang_tokens.specs.Places.{placed_of};
-ghost use Rattle.lang_tokens.specs.Machines as machines;
-ghost use Rattle.lang_tokens.specs.Machines.{AllValues, behind_item, listed, next, step, run, start_of};
-ghost use Rattle.lang_tokens.specs.Gives.{Advances, GivesAt, Gives};
+ghost use Rattle.lang_tokens.specs.Machines.{AllValues, behind_item, next, start_of};
+ghost use Rattle.lang_tokens.specs.Gives.{Advances};
 ghost use Rattle.lang_transitions.specs.ActMachine as machine;
-ghost use Rattle.lang_transitions.specs.ActMachine.{IsActValue, act_limits};
+ghost use Rattle.lang_transitions.specs.ActMachine.{IsActValue};
 ghost use Rattle.lang_transitions.specs.ActViews.{act_of, place_of, reading_of, terms_of, expr_of, KnowsFew, Takes};
 
 use crate::expression::{ExprReader, Taken, in_expression, nothing_yet};
 use lang_rows::expressions::{TermText, terms};
-use lang_specs::{Kind, Which};
-use lang_tokens::{LineFault, Token, fits_on, is, line_tokens, name_of, passed_alone, unless};
+use lang_specs::Kind;
+use lang_tokens::{LineFault, Token, is, name_of};
 use lang_trees::{ActParts, ActTree, Expr};
 use std::alloc::{AllocError, Global};
 
@@ -281,45 +277,6 @@ pub fn advance<'a>(
     }
 }
 
-/// The limit that a token passes, with room before it and behind it, or not.
-fn passed<'a>(line: u32, before: bool, behind: bool, token: Token<'a>) -> Option<Which>
-    ensures { result ≡ (if machines.fits_on before behind (mark (placed_of line token.entry)) then machines.passed_alone (mark (placed_of line token.entry)) else Some which.Terms) }
-{
-    if fits_on(before, behind, token.kind) {
-        passed_alone(line, token)
-    } else {
-        Some(Which::Terms)
-    }
-}
-
-/// The reader after a token.
-fn step<'a>(
-    alloc: Global,
-    line: u32,
-    reader: ActReader<'a>,
-    token: Token<'a>,
-) -> Result<ActReader<'a>, LineFault>
-    requires { KnowsFew reader }
-    ensures next { GivesAt reading_of (placed_of line token.entry) result (step (listed machine.acts) (reading_of reader.entry) (placed_of line token.entry)) }
-    ensures few { IfOk result KnowsFew }
-{
-    let before = has_few_terms(&reader);
-    let reader = advance(alloc, reader, token)?;
-    let behind = has_few_terms(&reader);
-    unless(passed(line, before, behind, token), reader)
-}
-
-/// Reads the acts of a line, behind the word before them.
-fn read_acts<'a>(alloc: Global, line: u32, tokens: &[Token<'a>]) -> Result<ActReader<'a>, LineFault>
-    ensures { Gives reading_of result (run (listed machine.acts) (start_of machine.acts) (map (placed_of line) tokens.now)) }
-{
-    let mut reader = fresh_reader(alloc);
-    for token in tokens {
-        reader = step(alloc, line, reader, *token)?;
-    }
-    Ok(reader)
-}
-
 /// What the act says.
 fn tree<'a>(alloc: Global, text: &ActText<'a>) -> Option<ActTree>
     ensures { IfSome result (IsActValue (act_of text.now)) }
@@ -355,32 +312,4 @@ pub fn act_trees<'a>(alloc: Global, texts: &[ActText<'a>]) -> Result<Vec<ActTree
         }
     }
     Ok(trees)
-}
-
-/// The acts that the tokens of a line spell, behind the word before them. Want of memory also stands where the tokens end
-/// before the line does, which no line has.
-pub fn line_acts<'a>(
-    alloc: Global,
-    line: u32,
-    tokens: &[Token<'a>],
-) -> Result<Vec<ActTree>, LineFault>
-    requires { AreLiterals (marks (map (placed_of line) tokens.now)) }
-    ensures ok { IfOk result (λ v. IsLineWithin (AreJoined IsAct) act_limits (marks (map (placed_of line) tokens.now)) v.items) }
-    ensures fault { IfErr result (IsLineFault (AreJoined IsAct) act_limits (map (placed_of line) tokens.now)) }
-{
-    let reader = read_acts(alloc, line, tokens)?;
-    if !reader.has_ended {
-        return Err(LineFault::Memory);
-    }
-    act_trees(alloc, &reader.done)
-}
-
-/// The acts that the bytes of a line spell.
-pub fn acts_of_line(alloc: Global, line: u32, text: &[u8]) -> Result<Vec<ActTree>, LineFault>
-    requires { length text.now + 1 < 2 ^ 32 }
-    ensures ok { IfOk result (λ v. IsLineWithin (AreJoined IsAct) act_limits (marks (tokens.line_tokens line text.now)) v.items) }
-    ensures fault { IfErr result (IsLineFault (AreJoined IsAct) act_limits (tokens.line_tokens line text.now)) }
-{
-    let found = line_tokens(alloc, line, text)?;
-    line_acts(alloc, line, &found)
 }
