@@ -8,4 +8,4 @@ mod divisors;
 mod numbers;
 
 pub use divisors::greatest_divisor;
-pub use numbers::{all_kept, kept_difference, kept_product, kept_sum};
+pub use numbers::{all_kept, is_kept, kept_difference, kept_product, kept_sum};

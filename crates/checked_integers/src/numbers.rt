@@ -5,7 +5,7 @@ ghost use Rattle.poly_specs.specs.Bits.{FitsBits};
 
 /// Whether the number is not the least value of the type.
 #[inline]
-fn is_kept(number: i128) -> bool
+pub fn is_kept(number: i128) -> bool
     ensures { IsTrue result ↔ FitsBits number }
 {
     number != i128::MIN

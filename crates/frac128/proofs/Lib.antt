@@ -3,3 +3,4 @@ pub mod PartLemmas
 pub mod RangeLemmas
 pub mod DigitLemmas
 pub mod DecimalLemmas
+pub mod CommonLemmas

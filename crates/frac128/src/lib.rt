@@ -3,6 +3,7 @@
 //! Each operation is exact or answers `None`: no number is rounded, and none wraps.
 #![tactic(auto)]
 
+mod common;
 mod numbers;
 mod order;
 mod read;
@@ -14,6 +15,7 @@ ghost use Rattle.poly_specs.specs.Bits.{FitsBits, NonePasses};
 ghost use Rattle.poly_specs.specs.Arithmetic.{IsKept, lowest, sum_numbers, product_numbers};
 ghost use Rattle.frac128.specs.Parts.{Makes};
 
+pub use crate::common::{Common, over_common};
 use crate::numbers::{product_over, shared_factor, sum_over, without_factor};
 use crate::order::compare_signed;
 pub use number_specs::NumFault;
