@@ -34,19 +34,19 @@ use Rattle.run_specs.specs.Aims.{Aim, EndsWhere, IsAimedRun}
 use Rattle.run_specs.specs.FirstRun.{picked, pick_at, IsLeft, IsReduced, IsFirstRun}
 
 -- two fractions that equal a third are equal
-same-through : (x y z : Fraction) → IsFraction y → SameFraction x y → SameFraction y z → SameFraction x z
+pub same-through : (x y z : Fraction) → IsFraction y → SameFraction x y → SameFraction y z → SameFraction x z
 same-through x y z hy e f =
     let c : y.den *ℤ (x.num *ℤ z.den) ≡ y.den *ℤ (z.num *ℤ x.den) = omega (arith, products, ap (λ n. n *ℤ z.den) e, ap (λ n. n *ℤ x.den) f) in
     same_cancel y.den (x.num *ℤ z.den) (z.num *ℤ x.den) hy c
 
 -- ---- the samples of a log
 
-all_in : {A : Type 0} (P : A → Type 0) (xs : List A) → All P xs → (x : A) → In x xs → P x
+pub all_in : {A : Type 0} (P : A → Type 0) (xs : List A) → All P xs → (x : A) → In x xs → P x
 all_in P [] h x i = absurd i
 all_in P (y ∷ xs) h x (inl e) = subst P (sym e) (All-head P y xs h)
 all_in P (y ∷ xs) h x (inr i) = all_in P xs (All-tail P y xs h) x i
 
-cells_are : (a : Automaton) (log : List Sample) → IsWellFormed a → IsLog (width a) log → (s : Sample) → In s log → AreCells a s.cells
+pub cells_are : (a : Automaton) (log : List Sample) → IsWellFormed a → IsLog (width a) log → (s : Sample) → In s log → AreCells a s.cells
 cells_are a log wf is s i =
     let sample : IsSample (width a) s = all_in (IsSample (width a)) log is.each s i in
     record { tolerances = tolerance; values = value sample; sized = sample.sized }

@@ -39,3 +39,4 @@ pub mod LeastDenominators
 pub mod RunNumbers
 pub mod PickedValues
 pub mod FirstRunExists
+pub mod HistoryEnds

@@ -139,7 +139,7 @@ run_of_state a k log belief hs f j h =
     let (run, e) = x.ends q at holds in (run, record { run_of = e.run_of; along = e.along; mark = x.mark run e.run_of e.along })
 
 -- the rows hold at the last values of a run of a log of at least one sample exactly where they hold at its end
-ends_end : (a : Automaton) (k : ℕ) (log : List Sample) (run : Run) (rows : List Row) → 0 < length log → IsRun a k log run → EndsWhere rows run.gaps ↔ AllHold rows (run_end a run).point
+pub ends_end : (a : Automaton) (k : ℕ) (log : List Sample) (run : Run) (rows : List Row) → 0 < length log → IsRun a k log run → EndsWhere rows run.gaps ↔ AllHold rows (run_end a run).point
 ends_end a k log run rows h r =
     let (g, l) = last_of a k run.start zero_fraction log run.gaps (some_gap a k run.start zero_fraction log run.gaps (λ e. omega (arith, ap length e, h)) r.follows) r.follows in
     let last : end_point g ≡ (run_end a run).point = sym (ap (λ (p : Place). p.point) (l.place run.start)) in

@@ -47,14 +47,18 @@ gaps_pickings a t (s ∷ ss) rows (g ∷ gs) =
     path_pickings a g.den g.start_loc (pos 0) (gap_start (width a) rows) g.start g.moves g.last
     ++ gaps_pickings a s.time ss (gap_rows a g.start_loc (path_of g) (difference s.time t) s.cells rows) gs
 
--- those of the run: its last values, from the rows of the last state and then these rows, and the numbers of its gaps
+-- that of its last values, from the rows of the last state and then these rows
+abbrev pub last_picking : Automaton → List Sample → Run → List Row → List Row → Picking
+last_picking a samples run init rows = record {
+  rows = history_rows a samples run.start.loc (map path_of run.gaps) init ++ rows;
+  first = 0;
+  numbers = last_values run.gaps;
+}
+
+-- those of the run: of its last values, and of the numbers of its gaps
 abbrev pub pickings : Automaton → List Sample → Run → List Row → List Row → List Picking
 pickings a samples run init rows =
-    record {
-      rows = history_rows a samples run.start.loc (map path_of run.gaps) init ++ rows;
-      first = 0;
-      numbers = last_values run.gaps;
-    }
+    last_picking a samples run init rows
     ∷ gaps_pickings a zero_fraction samples (rows_after (opening_stage a run.start.loc init)) run.gaps
 
 -- the numbers of a gap run, as fractions

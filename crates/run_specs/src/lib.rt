@@ -22,6 +22,7 @@ pub mod histories;
 pub mod history_logs;
 pub mod history_states;
 pub mod outcomes;
+pub mod pickings;
 pub mod sessions;
 pub mod states;
 pub mod worlds;
