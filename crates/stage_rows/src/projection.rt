@@ -27,7 +27,8 @@ pub fn project(alloc: Global, system: &System, first: usize) -> Result<System, R
     ensures passes { result ≡ Err RowFault.Passes → SomePasses (formed_each (columns_down first (system.now.width - first)) system.now.rows) }
 {
     let left = cut_left(alloc, system, first)?;
-    Ok(prune(alloc, &left)?)
+    let few = prune(alloc, &left)?;
+    Ok(few)
 }
 
 /// What is left in the columns before `first`, without the others, and not pruned at last.
