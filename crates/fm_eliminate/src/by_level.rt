@@ -9,6 +9,15 @@ use crate::{Levels, RowFault, System};
 use std::alloc::{AllocError, Global};
 
 impl Levels {
+    /// These systems as levels, of which the first is left with so many columns.
+    pub fn of_systems(first: usize, systems: Vec<System>) -> Levels
+        ensures value { result ≡ record { first = first; systems = systems.items } }
+        ensures kept { All IsKeptSystem systems.items }
+    {
+        see_kept(systems.as_slice());
+        Levels { first, systems }
+    }
+
     /// The number of columns that the first system is left with.
     pub fn first(&self) -> usize
         ensures { result ≡ self.now.first }
@@ -41,8 +50,7 @@ impl System {
             let x = width - 1 - done;
             self.add_level(alloc, &mut systems, x)?;
         }
-        see_kept(systems.as_slice());
-        Ok(Levels { first, systems })
+        Ok(Levels::of_systems(first, systems))
     }
 
     /// A copy of the system, in a list of its own.

@@ -21,7 +21,7 @@ impl System {
     }
 
     /// The system of rows that have its width.
-    pub(crate) fn of_rows(width: usize, rows: Vec<Row>) -> System
+    pub fn of_rows(width: usize, rows: Vec<Row>) -> System
         requires few { width ≤ 14 }
         requires wide { AllWide width rows.items }
         ensures { result ≡ record { width = width; rows = rows.items } }

@@ -23,7 +23,7 @@ pub use entailment::entails;
 use frac128::Frac;
 pub use inclusion::includes;
 pub use pruning::prune;
-pub use thinning::thinned_left;
+pub use thinning::{thinned_left, thinned_levels};
 
 /// The bound of a sum from above, over the points of a system.
 #[derive(Clone, Copy, Debug, PartialEq, Eq)]

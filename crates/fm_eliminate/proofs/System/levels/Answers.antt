@@ -1,5 +1,5 @@
 use Rattle.std.proofs.Common.{◌≡◌, ◌+◌, ◌-◌, sym, subst, arith}
-use Rattle.poly_specs.specs.Systems.{AreLevels}
+use Rattle.poly_specs.specs.Systems.{AreLevels, Levels}
 use Rattle.fm_eliminate.proofs.LevelLemmas.{levels_start, levels_at}
 use Rattle.fm_eliminate.proofs.System.levels.Goals as goal
 
@@ -23,4 +23,5 @@ loop-done-preserved c =
 pub returns-clause-ok : goal.returns-clause-ok
 returns-clause-ok c =
     let e : c.width-width.result - c.loop-done.done ≡ c.args.first = omega arith in
-    levels_at c.args.self.now c.loop-done.systems.items _ _ e c.loop-done.invariant
+    subst (λ (l : Levels). AreLevels c.args.first c.args.self.now l) (sym c.of_systems.ensures.value)
+    (levels_at c.args.self.now c.loop-done.systems.items _ _ e c.loop-done.invariant)
