@@ -6,3 +6,5 @@ pub mod DividedLemmas
 pub mod EntailLemmas
 pub mod InclusionLemmas
 pub mod PruneLemmas
+pub mod DominationLemmas
+pub mod ThinningLemmas

@@ -1,23 +1,36 @@
 //! Whether a row holds at each point of a system.
 
-ghost use Rattle.std.specs.Prelude.{◌≡◌, ◌≤◌, ℕ, List, Err, IfOk, MatchBool, length};
+ghost use Rattle.std.specs.Prelude.{◌≡◌, ◌≤◌, Err, IfOk, MatchBool, length};
 ghost use Rattle.poly_specs.specs.Bits.{SomePasses};
 ghost use Rattle.poly_specs.specs.Bounds.{IsPoint, Entails, bound_numbers};
-ghost use Rattle.poly_specs.specs.Rows.{Row as RowValue, Point, Holds};
-ghost use Rattle.poly_decide.specs.Bounded.{IsBound};
+ghost use Rattle.poly_specs.specs.Rows.{Point, Holds};
 
-use crate::Bound;
 use crate::bounds::sup;
-use crate::emptiness::exceeds;
+use crate::limits::is_allowed;
+use crate::pruning::is_found_implied;
 use fm_eliminate::{RowFault, System};
 use lin_row::Row;
 use std::alloc::Global;
 
 /// Whether the row holds at each point of the system.
 ///
-/// The row has the system's columns, at most 13. `Passes` where a number that the bound of its sum
-/// takes passes 128 bits.
+/// The row has the system's columns, at most 13. Where one of the system's rows dominates it, or a
+/// few of them are found to imply it, it does; else the bound of its sum decides. `Passes` only
+/// where a number that plain elimination forms for this bound passes 128 bits.
 pub fn entails(alloc: Global, s: &System, row: &Row) -> Result<bool, RowFault>
+    requires width { length row.now.coef ≡ s.now.width }
+    requires few { s.now.width ≤ 13 }
+    ensures ok { IfOk result (λ b. MatchBool b (Entails s.now.width s.now.rows row.now) ((p : Point) × IsPoint s.now.width s.now.rows p × (Holds row.now p → ⊥))) }
+    ensures passes { result ≡ Err RowFault.Passes → SomePasses (bound_numbers s.now.width s.now.rows row.now) }
+{
+    if is_found_implied(alloc, s.width(), s.rows(), row)? {
+        return Ok(true);
+    }
+    bound_tells(alloc, s, row)
+}
+
+/// Whether the row holds at each point of the system, by the bound of its sum.
+fn bound_tells(alloc: Global, s: &System, row: &Row) -> Result<bool, RowFault>
     requires width { length row.now.coef ≡ s.now.width }
     requires few { s.now.width ≤ 13 }
     ensures ok { IfOk result (λ b. MatchBool b (Entails s.now.width s.now.rows row.now) ((p : Point) × IsPoint s.now.width s.now.rows p × (Holds row.now p → ⊥))) }
@@ -25,17 +38,4 @@ pub fn entails(alloc: Global, s: &System, row: &Row) -> Result<bool, RowFault>
 {
     let bound = sup(alloc, s, row)?;
     Ok(is_allowed(&bound, row.strict()))
-}
-
-/// Whether all sums within the bound are at most 0, or below it where the row is strict.
-fn is_allowed(bound: &Bound, strict: bool) -> bool
-    ensures { (n : ℕ) (rows : List RowValue) (r : RowValue) → r.strict ≡ strict → IsBound n rows r bound.now →
-        MatchBool result (Entails n rows r) ((p : Point) × IsPoint n rows p × (Holds r p → ⊥)) }
-{
-    match bound {
-        Bound::Empty => true,
-        Bound::Unbounded => false,
-        Bound::Max(most) => !exceeds(most.num(), strict),
-        Bound::Below(limit) => !exceeds(limit.num(), false),
-    }
 }

@@ -5,12 +5,16 @@
 
 mod bounds;
 mod caps;
+mod constants;
 mod emptiness;
 mod entailment;
 mod inclusion;
+mod limits;
 mod multiples;
+mod plain;
 mod pruning;
 mod sums;
+mod thinning;
 
 pub use bounds::sup;
 pub use column_pick::pick;
@@ -19,6 +23,7 @@ pub use entailment::entails;
 use frac128::Frac;
 pub use inclusion::includes;
 pub use pruning::prune;
+pub use thinning::{thinned_left, thinned_levels};
 
 /// The bound of a sum from above, over the points of a system.
 #[derive(Clone, Copy, Debug, PartialEq, Eq)]

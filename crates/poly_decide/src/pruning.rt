@@ -1,24 +1,27 @@
 //! Systems without the rows that others of their rows imply.
 
-ghost use Rattle.std.specs.Prelude.{◌≡◌, ◌+◌, ◌<◌, ◌≤◌, ◌++◌, ◌∷◌, [], List, IsTrue, IfOk, OnOk, length, take, drop};
+ghost use Rattle.std.specs.Prelude.{◌≡◌, ◌↔◌, ◌+◌, ◌<◌, ◌≤◌, ◌++◌, ◌∷◌, [], List, Any, IsTrue, IfOk, OnOk, MatchBool, length, take, drop};
 ghost use Rattle.poly_specs.specs.Bounds.{Entails};
+ghost use Rattle.poly_specs.specs.Columns.{IsDominated};
 ghost use Rattle.poly_specs.specs.Lists.{IsAmong};
 ghost use Rattle.poly_specs.specs.Rows.{Row as RowValue, AllWide};
-ghost use Rattle.poly_decide.specs.Pruned.{IsPruned, IsThinned};
+ghost use Rattle.poly_decide.specs.Pruned.{IsPruned, IsThinned, AreUndominated, AreUndominatedFrom};
 
-use crate::entailment::entails;
 use crate::multiples::implying_rows;
+use crate::plain::plain_entails;
 use fm_eliminate::{RowFault, System};
 use lin_row::Row;
 use std::alloc::{AllocError, Global};
 
 /// A system with the same points, of some of the rows in their order.
 ///
-/// A row is dropped where a few others that are left are found to imply it. They are searched with
-/// floats, which nothing else depends on, and then it is decided exactly. Where they are not found,
-/// where deciding passes 128 bits, and in systems of 14 columns, the row stays.
+/// No row that is left dominates another one: of equal rows one stays. A row is also dropped where
+/// a few others that are left are found to imply it. They are searched with floats, which nothing
+/// else depends on, and then it is decided exactly. Where they are not found, where deciding passes
+/// 128 bits, and in systems of 14 columns, a row that none dominates stays.
 pub fn prune(alloc: Global, s: &System) -> Result<System, AllocError>
-    ensures { IfOk result (λ t. IsPruned s.now t) }
+    ensures pruned { IfOk result (λ t. IsPruned s.now t) }
+    ensures undominated { IfOk result (λ t. AreUndominated t.rows) }
 {
     let width = s.width();
     let rows = thinned(alloc, width, s.rows())?;
@@ -40,6 +43,7 @@ fn thinned(alloc: Global, width: usize, rows: &[Row]) -> Result<Vec<Row>, AllocE
     requires wide { AllWide width rows.now }
     ensures thinned { IfOk result (λ v. IsThinned width rows.now v.items) }
     ensures wide { IfOk result (λ v. AllWide width v.items) }
+    ensures undominated { IfOk result (λ v. AreUndominated v.items) }
 {
     let few = without_late(alloc, width, rows)?;
     let left = without_implied(alloc, width, few)?;
@@ -65,7 +69,7 @@ fn add_needed(alloc: Global, width: usize, left: &mut Vec<Row>, row: &Row) -> Re
     requires width { length row.now.coef ≡ width }
     ensures { OnOk result ((rows : List RowValue) → IsThinned width rows left.old.items → IsThinned width (rows ++ row.now ∷ []) left.new.items) }
 {
-    if is_implied(alloc, width, left.as_slice(), row)? {
+    if is_found_implied(alloc, width, left.as_slice(), row)? {
         return Ok(());
     }
     left.push(row.copy())?;
@@ -75,7 +79,8 @@ fn add_needed(alloc: Global, width: usize, left: &mut Vec<Row>, row: &Row) -> Re
 /// The rows without those that are found to be implied by the others.
 fn without_implied(alloc: Global, width: usize, rows: Vec<Row>) -> Result<Vec<Row>, AllocError>
     requires wide { AllWide width rows.items }
-    ensures { IfOk result (λ v. IsThinned width rows.items v.items) }
+    ensures thinned { IfOk result (λ v. IsThinned width rows.items v.items) }
+    ensures undominated { IfOk result (λ v. AreUndominated v.items) }
 {
     let count = rows.len();
     let mut left = rows;
@@ -93,13 +98,14 @@ fn without_one(
     place: usize,
 ) -> Result<Vec<Row>, AllocError>
     requires wide { AllWide width rows.items }
-    ensures { IfOk result (λ v. IsThinned width rows.items v.items) }
+    ensures thinned { IfOk result (λ v. IsThinned width rows.items v.items) }
+    ensures undominated { IfOk result (λ v. AreUndominatedFrom (place + 1) rows.items → AreUndominatedFrom place v.items) }
 {
     if place >= rows.len() {
         return Ok(rows);
     }
     let others = others_of(alloc, rows.as_slice(), place)?;
-    if is_implied(alloc, width, others.as_slice(), &rows[place])? {
+    if is_found_implied(alloc, width, others.as_slice(), &rows[place])? {
         return Ok(others);
     }
     Ok(rows)
@@ -125,8 +131,31 @@ fn add_copies(rows: &mut Vec<Row>, more: &[Row]) -> Result<(), AllocError>
     Ok(())
 }
 
-/// Whether some of the rows are found to imply the row.
-fn is_implied(alloc: Global, width: usize, rows: &[Row], row: &Row) -> Result<bool, AllocError>
+/// Whether one of the rows dominates the row, or a few of them are found to imply it.
+pub fn is_found_implied(
+    alloc: Global,
+    width: usize,
+    rows: &[Row],
+    row: &Row,
+) -> Result<bool, AllocError>
+    requires wide { AllWide width rows.now }
+    requires width { length row.now.coef ≡ width }
+    ensures { IfOk result (λ b. MatchBool b (Entails width rows.now row.now) (Any (λ other. IsDominated row.now other) rows.now → ⊥)) }
+{
+    if is_dominated(row, rows) {
+        return Ok(true);
+    }
+    few_imply(alloc, width, rows, row)
+}
+
+fn is_dominated(row: &Row, others: &[Row]) -> bool
+    ensures { IsTrue result ↔ Any (λ other. IsDominated row.now other) others.now }
+{
+    others.iter().any(|other| Row::dominated(row, other))
+}
+
+/// Whether a few of the rows are found to imply the row.
+fn few_imply(alloc: Global, width: usize, rows: &[Row], row: &Row) -> Result<bool, AllocError>
     requires wide { AllWide width rows.now }
     requires width { length row.now.coef ≡ width }
     ensures { IfOk result (λ b. IsTrue b → Entails width rows.now row.now) }
@@ -172,7 +201,7 @@ fn do_imply(alloc: Global, width: usize, rows: Vec<Row>, row: &Row) -> Result<bo
     ensures { IfOk result (λ b. IsTrue b → Entails width rows.items row.now) }
 {
     let system = of_rows(width, rows);
-    match entails(alloc, &system, row) {
+    match plain_entails(alloc, &system, row) {
         Ok(answer) => Ok(answer),
         Err(RowFault::Passes) => Ok(false),
         Err(RowFault::Memory) => Err(AllocError),

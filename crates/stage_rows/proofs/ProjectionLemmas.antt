@@ -6,10 +6,7 @@ use Rattle.std.proofs.lemmas.List.{append-nil, length-append}
 use Rattle.std.proofs.lemmas.List.Elements.{All-from_recursion}
 use Rattle.poly_specs.proofs.DownLemmas.{columns_projected}
 use Rattle.poly_specs.proofs.InclusionLemmas.{in_left}
-use Rattle.fm_eliminate.proofs.LevelLemmas.{last_level, level_step}
-use Rattle.poly_decide.proofs.PruneLemmas.{sublist_among, wide_among}
-use Rattle.poly_decide.specs.Pruned.{IsPruned}
-use Rattle.poly_specs.proofs.EliminationLemmas.{out_map, in_map, width_in, AllHold-from_in, AllHold-at_in}
+use Rattle.poly_specs.proofs.EliminationLemmas.{out_map, in_map, width_in}
 use Rattle.fm_eliminate.proofs.LeavingLemmas.{all_from_in}
 use Rattle.fm_eliminate.proofs.PivotLemmas.{each_in}
 use Rattle.run_specs.proofs.EndLemmas.{all_cut}
@@ -18,9 +15,9 @@ use Rattle.poly_specs.specs.Columns.{cut}
 use Rattle.poly_specs.specs.Elimination.{eliminated_each, columns_down}
 use Rattle.poly_specs.specs.Lists.{In, IsAmong}
 use Rattle.poly_specs.specs.Rows.{Point, Row, over, coef_at, AllHold, AllWide, SomeValuesHold}
-use Rattle.poly_specs.specs.Systems.{System, IsLevel, IsProjection}
+use Rattle.poly_specs.specs.Systems.{System, IsLevel}
 use Rattle.run_specs.specs.Stages.{zeros, rows_after}
-use Rattle.stage_rows.specs.Projecting.{projecting, IsLevelOf}
+use Rattle.stage_rows.specs.Projecting.{projecting}
 
 -- ---- the columns that are cut off hold zeros
 
@@ -68,31 +65,3 @@ module _ (s : System) (c : ℕ) (left : List Row) (within : c ≤ s.width) (wide
         λ h. there.1 (law.1 (same.0 (here.0 h))),
         λ h. here.1 (same.1 (law.0 (there.0 h))),
       )
-
--- ---- one column after the other
-
-pub whole_level : (s : System) → AllWide s.width s.rows → IsLevelOf s s.width s
-whole_level s wide = record { same_width = refl; level = last_level s.width s.rows wide }
-
--- some of the rows, with the same points, are as good a level
-pub thinned_level : (s all few : System) (c : ℕ) → all.width ≡ s.width → IsLevel s.width c s.rows all.rows → IsPruned all few → IsLevelOf s c few
-thinned_level s all few c width level pruned =
-    let among = sublist_among few.rows all.rows pruned.thinned.some in
-    record {
-      same_width = pruned.same_width ∙ width;
-      level = record {
-        wide = wide_among s.width all.rows few.rows level.wide among;
-        free = λ x h g. all_from_in (λ r. coef_at x r ≡ pos 0) few.rows (λ r i. each_in (λ t. coef_at x t ≡ pos 0) all.rows (level.free x h g) r (among r i));
-        plain = λ r i. level.plain r (among r i);
-        same = λ p d l. (
-          λ h. (level.same p d l).0 (pruned.thinned.enough p (record { positive = d; sized = l ∙ sym width; holds = h })),
-          λ h. let whole = (level.same p d l).1 h in AllHold-from_in few.rows p (λ r i. AllHold-at_in all.rows p whole r (among r i)),
-        );
-      };
-    }
-
-pub next_level : (s left all few : System) (x : ℕ) → x < s.width → AllWide s.width s.rows → IsLevelOf s (x + 1) left → all.width ≡ left.width →
-    IsProjection left.width x left.rows all.rows → IsPruned all few → IsLevelOf s x few
-next_level s left all few x within wide before width projection pruned =
-    let here = subst (λ w. IsProjection w x left.rows all.rows) before.same_width projection in
-    thinned_level s all few x (width ∙ before.same_width) (level_step s.width x s.rows left.rows all.rows within wide before.level here) pruned

@@ -8,8 +8,8 @@ use Rattle.poly_specs.specs.Rows.{Row, Point, Holds}
 use Rattle.poly_decide.proofs.InclusionLemmas.{row_passes, each_entailed}
 use Rattle.poly_decide.proofs.inclusion.includes.Goals as goal
 
-pub returns-in_err-is_implied-clause-passes : goal.returns-in_err-is_implied-clause-passes
-returns-in_err-is_implied-clause-passes c e =
+pub returns-in_err-entails-clause-passes : goal.returns-in_err-entails-clause-passes
+returns-in_err-entails-clause-passes c e =
     let passes : SomePasses (bound_numbers c.args.small.now.width c.args.small.now.rows c.row-item.result) = search rules in
     let within : c.loop-row.row-index < length c.args.big.now.rows = subst (λ (rs : List Row). c.loop-row.row-index < length rs) c.rows-row-items.ensures.value c.loop-row-test.true in
     let at = c.row-item.is ∙ ap (λ (rs : List Row). get_or rs c.loop-row.row-index c.row-item.result) c.rows-row-items.ensures.value in
@@ -20,7 +20,7 @@ loop-row-preserved c =
     let n = c.args.small.now.width in
     let rows = c.args.small.now.rows in
     let entailed : Entails n rows c.row-item.result =
-    subst (λ b. MatchBool b (Entails n rows c.row-item.result) ((p : Point) × IsPoint n rows p × (Holds c.row-item.result p → ⊥))) c.if-not-branch.false c.in_ok-is_implied.ensures.ok in
+    subst (λ b. MatchBool b (Entails n rows c.row-item.result) ((p : Point) × IsPoint n rows p × (Holds c.row-item.result p → ⊥))) c.if-not-branch.false c.in_ok-entails.ensures.ok in
     All-more (Entails n rows) c.rows-row-items.result.now c.loop-row.row-index c.row-item.result c.loop-row-test.true c.loop-row.invariant
     (subst (Entails n rows) c.row-item.is entailed)
 

@@ -1,20 +1,17 @@
-use Rattle.std.proofs.Common.{◌↔◌, sym, ap, subst}
-use Rattle.poly_specs.specs.Lists.{IsAmong}
-use Rattle.poly_specs.specs.Rows.{AllHold}
-use Rattle.run_specs.specs.Stages.{rows_after}
-use Rattle.stage_rows.specs.Projecting.{projecting}
-use Rattle.stage_rows.proofs.ProjectionLemmas.{free_zeros, left_plain, left_same}
+use Rattle.std.proofs.Common.{◌∙◌, sym}
+use Rattle.poly_decide.proofs.PruneLemmas.{sublist_among}
+use Rattle.poly_decide.proofs.ThinningLemmas.{pruned_same}
 use Rattle.stage_rows.proofs.projection.project.Goals as goal
 
-pub cut-requires-clause-zeros : goal.cut-requires-clause-zeros
-cut-requires-clause-zeros c = free_zeros _ _ _ _ c.in_ok-left.ensures.ok.level
+pub returns-clause-wide : goal.returns-clause-wide
+returns-clause-wide c = c.in_ok-few.ensures.pruned.same_width ∙ c.in_ok-left.ensures.wide
 
 pub returns-clause-same : goal.returns-clause-same
 returns-clause-same c p h l =
-    subst (λ rows. AllHold rows p ↔ AllHold (rows_after (projecting c.args.first c.args.system.now)) p) (sym (ap (λ s. s.rows) c.in_ok-cut.ensures))
-    (left_same c.args.system.now c.args.first c.in_ok-left.left.rows c.requires c.width.ensures.kept.wide c.in_ok-left.ensures.ok.level p.den p.num h l)
+    let few = pruned_same c.in_ok-left.left c.in_ok-few.few p c.in_ok-few.ensures.pruned h (l ∙ sym c.in_ok-left.ensures.wide) in
+    let all = c.in_ok-left.ensures.same p h l in
+    (λ g. all.0 (few.0 g), λ g. few.1 (all.1 g))
 
 pub returns-clause-plain : goal.returns-clause-plain
-returns-clause-plain c =
-    subst (λ rows. IsAmong rows (rows_after (projecting c.args.first c.args.system.now))) (sym (ap (λ s. s.rows) c.in_ok-cut.ensures))
-    (left_plain c.args.system.now c.args.first c.in_ok-left.left.rows c.requires c.width.ensures.kept.wide c.in_ok-left.ensures.ok.level)
+returns-clause-plain c r i =
+    c.in_ok-left.ensures.plain r (sublist_among c.in_ok-few.few.rows c.in_ok-left.left.rows c.in_ok-few.ensures.pruned.thinned.some r i)

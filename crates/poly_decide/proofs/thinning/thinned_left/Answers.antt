@@ -1,7 +1,7 @@
 use Rattle.std.proofs.Common.{◌≡◌, ◌+◌, ◌-◌, sym, subst, arith}
-use Rattle.stage_rows.specs.Projecting.{IsLevelOf}
-use Rattle.stage_rows.proofs.ProjectionLemmas.{whole_level}
-use Rattle.stage_rows.proofs.projection.left_before.Goals as goal
+use Rattle.poly_decide.specs.Pruned.{IsLevelOf}
+use Rattle.poly_decide.proofs.ThinningLemmas.{whole_level}
+use Rattle.poly_decide.proofs.thinning.thinned_left.Goals as goal
 
 pub loop-done-init : goal.loop-done-init
 loop-done-init c =

@@ -3,7 +3,7 @@ use Rattle.std.specs.Prelude.{All}
 use Rattle.poly_specs.specs.Rows.{Row}
 use Rattle.poly_decide.specs.Caps.{IsCap, IsWithin}
 use Rattle.poly_decide.proofs.BoundLemmas.{empty_bound, unbounded, greatest, limit}
-use Rattle.poly_decide.proofs.bounds.bound_of.Goals as goal
+use Rattle.poly_decide.proofs.limits.bound_of.Goals as goal
 
 pub returns-then-some_never_holds : goal.returns-then-some_never_holds
 returns-then-some_never_holds c n rows r level sums =

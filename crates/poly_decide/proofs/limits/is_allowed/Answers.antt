@@ -5,7 +5,7 @@ use Rattle.std.proofs.lemmas.Int.{to_z-of_z}
 use Rattle.poly_specs.specs.Rows.{Allows}
 use Rattle.poly_decide.specs.Bounded.{IsBound}
 use Rattle.poly_decide.proofs.EntailLemmas.{unbounded_escapes, greatest_tells, limit_tells}
-use Rattle.poly_decide.proofs.entailment.is_allowed.Goals as goal
+use Rattle.poly_decide.proofs.limits.is_allowed.Goals as goal
 
 pub returns-in-Unbounded : goal.returns-in-Unbounded
 returns-in-Unbounded c n rows r e b = unbounded_escapes n rows r (subst (IsBound n rows r) c.in-Unbounded.is b)

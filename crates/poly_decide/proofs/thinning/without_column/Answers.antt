@@ -1,8 +1,8 @@
 use Rattle.std.proofs.Common.{◌≡◌, Err, ap, rules}
 use Rattle.fm_eliminate.proofs.LevelLemmas.{level_passes}
 use Rattle.fm_eliminate.specs.declared.RowFault.TheVariants.{Passes}
-use Rattle.stage_rows.proofs.ProjectionLemmas.{next_level}
-use Rattle.stage_rows.proofs.projection.without_column.Goals as goal
+use Rattle.poly_decide.proofs.ThinningLemmas.{next_level}
+use Rattle.poly_decide.proofs.thinning.without_column.Goals as goal
 
 pub returns-in_err-all-clause-passes : goal.returns-in_err-all-clause-passes
 returns-in_err-all-clause-passes c e first h =
