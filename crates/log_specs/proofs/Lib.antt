@@ -4,3 +4,5 @@ pub mod ReportLemmas
 pub mod ReplyLemmas
 pub mod ExampleReports
 pub mod ExampleTexts
+pub mod LampRuns
+pub mod ExampleAlarms

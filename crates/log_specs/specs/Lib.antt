@@ -5,3 +5,4 @@ pub mod LogSessions
 pub mod Blocks
 pub mod LogReports
 pub mod Examples
+pub mod AlarmExamples

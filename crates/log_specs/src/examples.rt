@@ -1,9 +1,12 @@
 //! Small logs and their reports, which pin the definitions.
 
-ghost use Rattle.std.specs.Prelude.{◌≡◌, [], ◌∷◌, codes, true, false, replicate};
+ghost use Rattle.std.specs.Prelude.{◌≡◌, List, [], ◌∷◌, codes, true, false, replicate};
+ghost use Rattle.run_specs.specs.declared.Verdict.{Verdict};
 ghost use Rattle.report_specs.specs.Lines.{lines_of};
 ghost use Rattle.report_specs.specs.Report.{IsReport};
 ghost use Rattle.log_specs.specs.declared.LogForm.TheVariants.{Check, Watch};
+ghost use Rattle.log_specs.specs.declared.RunsMode.TheVariants as mode;
+ghost use Rattle.log_specs.specs.AlarmExamples.{lamp_task, lamp_log, two_alarms, no_runs, one_run, both_runs};
 ghost use Rattle.log_specs.specs.Fields.{fields_of, is_long};
 ghost use Rattle.replay_specs.specs.RunTexts.{run_text};
 ghost use Rattle.log_specs.specs.Blocks.{printed_run};
@@ -65,4 +68,17 @@ pub fn some_fields()
 /// The text of a run names its gaps, legs and jumps in order.
 pub fn some_run_texts()
     ensures { (run_text thirds.gaps ≡ thirds_text) × (run_text below_zero.gaps ≡ below_zero_text) }
+{}
+
+/// Of two alarms in a row, neither has a run behind it with `none`, the former has one with `first`, and both have one with `all`.
+pub fn printed_runs()
+    ensures { IsReport (rules_of (lamp_task mode.None)) lamp_log no_runs two_alarms
+        × IsReport (rules_of (lamp_task mode.First)) lamp_log one_run two_alarms
+        × IsReport (rules_of (lamp_task mode.All)) lamp_log both_runs two_alarms }
+{}
+
+/// With `first` no report has a run behind the second alarm too, and with `all` none is without it, whatever was replied.
+pub fn no_other_printed_runs()
+    ensures { ((replies : List Verdict) → IsReport (rules_of (lamp_task mode.First)) lamp_log both_runs replies → ⊥)
+        × ((replies : List Verdict) → IsReport (rules_of (lamp_task mode.All)) lamp_log one_run replies → ⊥) }
 {}
