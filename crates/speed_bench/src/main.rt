@@ -25,13 +25,19 @@ fn asks(words: &[String], name: &str) -> bool {
 fn main(rt: HostRuntime) {
     let alloc = rt.alloc();
     let Ok(words) = words_of(&rt) else { return };
-    if asks(&words, "elimination") && let Some((left, rounds)) = elimination::timed(alloc) {
+    if asks(&words, "elimination")
+        && let Some((left, rounds)) = elimination::timed(alloc)
+    {
         let _ = println!(rt; "{} rows left of {} eliminations", left, rounds);
     }
-    if asks(&words, "reading") && let Some((count, rounds)) = reading::timed(alloc) {
+    if asks(&words, "reading")
+        && let Some((count, rounds)) = reading::timed(alloc)
+    {
         let _ = println!(rt; "{} rows read in {} readings", count, rounds);
     }
-    if asks(&words, "step") && let Some((count, rounds)) = step::timed(alloc) {
+    if asks(&words, "step")
+        && let Some((count, rounds)) = step::timed(alloc)
+    {
         let _ = println!(rt; "{} states after {} gaps", count, rounds);
     }
 }
