@@ -1,14 +1,13 @@
 -- The pick of the numbers between two caps.
-use Rattle.std.proofs.Common.{◌≡◌, ◌↔◌, ◌⊎◌, inl, inr, ℕ, ◌*◌, ◌≤◌, Bool, true, false, Option, Some, None, Result, Ok, Err, refl, sym, ◌∙◌, ap, subst, arith, ℤ, pos, negsuc, ◌*ℤ◌, ◌≤ℤ◌, ◌<ℤ◌, neg_ℤ, unsigned_abs}
-use Rattle.std.specs.Prelude.{⊤, MatchOption, IfOk}
+use Rattle.std.proofs.Common.{◌≡◌, ◌↔◌, inl, inr, ℕ, ◌*◌, ◌≤◌, Bool, true, false, Option, Some, None, Result, Ok, Err, refl, sym, ◌∙◌, ap, subst, arith, ℤ, pos, ◌*ℤ◌, ◌≤ℤ◌, ◌<ℤ◌, neg_ℤ, unsigned_abs}
+use Rattle.std.specs.Prelude.{⊤, IfOk}
 use Rattle.fm_eliminate.specs.declared.RowFault.{RowFault}
 use Rattle.std.proofs.lemmas.Int.{ints, by_lt_z, unsigned_abs-mul}
 use Rattle.poly_specs.proofs.ColumnLemmas.{abs_is}
 use Rattle.poly_specs.proofs.FractionLemmas.{same-AtMost}
 use Rattle.poly_specs.proofs.IntLemmas.{neg_mul, mul_le}
-use Rattle.poly_specs.proofs.LowestLemmas.{shared, lowest-IsFraction, lowest-same, lowest-coprime, coprime-unique}
+use Rattle.poly_specs.proofs.LowestLemmas.{lowest-IsFraction, lowest-same, lowest-coprime, coprime-unique}
 use Rattle.poly_specs.proofs.SetLemmas.{Within, pick_same}
-use Rattle.poly_specs.proofs.GcdLemmas.{gcd-swap}
 use Rattle.poly_specs.proofs.CombinationLemmas.{gcd-IsGcd}
 use Rattle.std.proofs.Math.Nat.{eq-one_of_dvd-one}
 use Rattle.poly_specs.specs.Arithmetic.{lowest}
@@ -17,15 +16,13 @@ use Rattle.fm_eliminate.proofs.HoldingLemmas.{some_passes}
 use Rattle.std.proofs.lemmas.List.Elements.{recursion_from_All}
 use Rattle.poly_specs.specs.Fractions.{Fraction, IsFraction, SameFraction, AtMost, zero_fraction, opposite}
 use Rattle.poly_specs.specs.LowestTerms.{IsLowest}
-use Rattle.poly_specs.specs.Pickings.{lowest_numbers, middle_numbers}
-use Rattle.poly_specs.specs.Picks.{IsInteger, IsNearer, HasNoInteger, HasEnds, IsPick}
-use Rattle.poly_specs.specs.Sets.{HasMember}
-use Rattle.column_pick.proofs.GapLemmas.{up_to_lower, lowest_is}
+use Rattle.poly_specs.specs.Pickings.{lowest_numbers}
+use Rattle.poly_specs.specs.Picks.{IsNearer, HasNoInteger, IsPick}
+use Rattle.column_pick.proofs.GapLemmas.{up_to_lower}
 use Rattle.column_pick.proofs.RangeLemmas.{parted-IsFraction}
 use Rattle.column_pick.specs.Ranges.{parted, IsUpTo, IsUnder, IsBetween, IsShort, whole, IsLeastWhole, HasNoWhole}
 use Rattle.column_pick.specs.RangePicks.{IsOpenGap, FormingPasses, IsPickOf, IsFrom, IsInGap, opposite_cap, HasZero}
 use Rattle.column_pick.specs.declared.ranges.Cap.{Cap}
-use Rattle.column_pick.specs.declared.ranges.Range.{Range}
 
 -- ---- whole numbers
 

@@ -1,6 +1,5 @@
 -- Evaluating a row at padded numbers takes the same numbers, and zeros.
-use Rattle.std.proofs.Common.{◌≡◌, ◌⊎◌, inl, inr, ℕ, zero, suc, ◌-◌, ◌+◌, ◌<◌, ◌^◌, List, [], ◌∷◌, ◌++◌, length, replicate, sym, ◌∙◌, ap, subst, arith, ℤ, pos, ◌+ℤ◌, ◌*ℤ◌, unsigned_abs}
-use Rattle.std.specs.Prelude.{All, Any}
+use Rattle.std.proofs.Common.{◌≡◌, ℕ, zero, suc, ◌-◌, ◌+◌, List, [], ◌∷◌, ◌++◌, length, replicate, sym, subst, arith, ℤ, pos, ◌+ℤ◌, ◌*ℤ◌}
 use Rattle.std.proofs.lemmas.Int.{ints}
 use Rattle.std.proofs.lemmas.List.Elements.{All-from_recursion, recursion_from_All}
 use Rattle.fm_eliminate.proofs.HoldingLemmas.{some_passes}
@@ -9,10 +8,10 @@ use Rattle.poly_specs.specs.Bits.{FitsBits, PassesBits, NonePasses, SomePasses}
 use Rattle.poly_specs.specs.Denominators.{common_den, common_nums}
 use Rattle.poly_specs.specs.Evaluation.{running, eval_numbers}
 use Rattle.poly_specs.specs.Fractions.{Fraction}
-use Rattle.poly_specs.specs.Lists.{In, IsAmong, dot}
-use Rattle.poly_specs.specs.Rows.{Row, over}
+use Rattle.poly_specs.specs.Lists.{dot}
+use Rattle.poly_specs.specs.Rows.{Row}
 use Rattle.poly_specs.specs.Systems.{System, IsLevel}
-use Rattle.column_pick.specs.Fixed.{padded, fixed_point}
+use Rattle.column_pick.specs.Fixed.{fixed_point}
 use Rattle.column_pick.specs.Nexts.{AnyPasses, RowPasses}
 
 nothing_passes : (ns : List ℤ) → NonePasses ns → SomePasses ns → ⊥

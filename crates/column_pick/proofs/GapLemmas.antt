@@ -1,13 +1,13 @@
 -- The pick between two ends that have no whole number between them.
-use Rattle.std.proofs.Common.{◌≡◌, ◌⊎◌, inl, inr, Bool, true, false, Option, Some, None, refl, sym, ◌∙◌, ap, subst, arith, ℤ, pos, ◌+ℤ◌, ◌*ℤ◌, ◌<ℤ◌, ◌∷◌, [], true≢false}
-use Rattle.std.specs.Prelude.{MatchBool, MatchOption, SomeIff, IsTrue, IsFalse}
+use Rattle.std.proofs.Common.{◌≡◌, inl, inr, Bool, true, false, Option, Some, None, refl, sym, ◌∙◌, ap, subst, arith, ℤ, pos, ◌+ℤ◌, ◌*ℤ◌, ◌<ℤ◌}
+use Rattle.std.specs.Prelude.{MatchBool, SomeIff, IsTrue, IsFalse}
 use Rattle.std.proofs.lemmas.Int.{ints}
 use Rattle.fm_eliminate.proofs.HoldingLemmas.{some_passes}
 use Rattle.poly_specs.proofs.IntLemmas.{products, mul_comm_int, product_positive}
 use Rattle.poly_specs.proofs.FractionLemmas.{AtMost-trans, Below-AtMost, AtMost-Below, Below-AtMost_trans, same-trans, middle-den, middle-same}
 use Rattle.poly_specs.proofs.LowestLemmas.{lowest-IsFraction, lowest-same, lowest-stays, lowest-unique, least_sum-IsFraction, lowest-least_sum}
 use Rattle.poly_specs.specs.Arithmetic.{lowest, least_sum}
-use Rattle.poly_specs.specs.Bits.{NonePasses, SomePasses}
+use Rattle.poly_specs.specs.Bits.{NonePasses}
 use Rattle.poly_specs.specs.Fractions.{Fraction, IsFraction, SameFraction, AtMost, Below, zero_fraction, sum_of}
 use Rattle.poly_specs.specs.LowestTerms.{IsLowest}
 use Rattle.poly_specs.specs.Pickings.{half, lowest_numbers, middle_numbers}
@@ -15,7 +15,7 @@ use Rattle.poly_specs.specs.Picks.{HasNoInteger, HasEnds, AreEnds, IsEndPick, Is
 use Rattle.poly_specs.specs.Sets.{HasMember}
 use Rattle.column_pick.proofs.RangeLemmas.{parted-IsFraction, up_to_most, up_to_below}
 use Rattle.column_pick.specs.Ranges.{parted, least_middle, IsUpTo}
-use Rattle.column_pick.specs.RangePicks.{IsOpenGap, FormingPasses, IsPickOf, IsFrom, IsInGap, IsFirstClosed, IsClosedEnd}
+use Rattle.column_pick.specs.RangePicks.{IsPickOf, IsFrom, IsInGap, IsFirstClosed}
 use Rattle.column_pick.specs.declared.ranges.Cap.{Cap}
 
 -- ---- the middle

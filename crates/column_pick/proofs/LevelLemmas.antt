@@ -1,5 +1,5 @@
 -- The level of a column, among the levels of a system.
-use Rattle.std.proofs.Common.{◌≡◌, ℕ, ◌+◌, ◌-◌, ◌<◌, ◌≤◌, List, length, get_or, sym, ap, ◌∙◌, subst, arith}
+use Rattle.std.proofs.Common.{◌≡◌, ℕ, ◌+◌, ◌-◌, ◌<◌, ◌≤◌, length, get_or, sym, ap, ◌∙◌, subst, arith}
 use Rattle.std.proofs.lemmas.List.{get_or_default}
 use Rattle.poly_specs.specs.Systems.{System, Levels, IsLevel, AreLevels, no_system}
 use Rattle.poly_specs.specs.Rows.{AllWide}

@@ -1,8 +1,7 @@
 -- The numbers between the ends that a level's rows set are the values that the whole system leaves for the next column.
-use Rattle.std.proofs.Common.{◌≡◌, ◌≢◌, ◌↔◌, ◌⊎◌, inl, inr, ℕ, zero, suc, ◌+◌, ◌-◌, ◌<◌, ◌≤◌, List, [], ◌∷◌, ◌++◌, length, length-append, length-take, map, take, replicate, get_or, refl, sym, ◌∙◌, ap, subst, arith, ℤ, pos, negsuc, ◌+ℤ◌, ◌*ℤ◌, ◌<ℤ◌, unsigned_abs}
+use Rattle.std.proofs.Common.{◌≡◌, ◌≢◌, ◌↔◌, inl, inr, ℕ, zero, suc, ◌+◌, ◌-◌, ◌<◌, ◌≤◌, List, [], ◌∷◌, ◌++◌, length, length-append, length-take, take, replicate, get_or, refl, sym, ◌∙◌, ap, subst, arith, ℤ, pos, negsuc, ◌+ℤ◌, ◌*ℤ◌, ◌<ℤ◌, unsigned_abs}
 use Rattle.std.specs.Prelude.{All}
 use Rattle.std.specs.Int.{◌∣◌}
-use Rattle.std.specs.List.{AllByRecursion}
 use Rattle.std.proofs.Math.ListN.{get_or-append}
 use Rattle.std.proofs.lemmas.Int.{ints}
 use Rattle.std.proofs.lemmas.Bool.{cases_lt}
@@ -21,16 +20,16 @@ use Rattle.poly_specs.specs.Picks.{IsPick}
 use Rattle.poly_specs.specs.Sets.{IsInterval, HasMember}
 use Rattle.poly_specs.proofs.ProjectionLemmas.{with_number, value-rest, rest, SameBut-with_number}
 use Rattle.poly_specs.specs.Arithmetic.{lowest}
-use Rattle.poly_specs.specs.Bounds.{IsPoint}
 use Rattle.poly_specs.specs.Denominators.{common_den, common_nums, num_over}
 use Rattle.poly_specs.specs.Fractions.{Fraction, IsFraction, SameFraction, zero_fraction}
 use Rattle.poly_specs.specs.Lists.{number_at, scaled}
-use Rattle.poly_specs.specs.Rows.{Point, Row, row_value, Allows, Holds, over, coordinate, coef_at, AllHold, AllWide, SameBefore, SomeValuesHold}
+use Rattle.poly_specs.specs.Rows.{Point, Row, row_value, Allows, over, coordinate, coef_at, AllHold, SameBefore, SomeValuesHold}
 use Rattle.poly_specs.specs.Systems.{System, IsLevel}
-use Rattle.column_pick.proofs.CommonLemmas.{common_positive, each_divides, over_common}
+use Rattle.frac128.proofs.CommonLemmas.{common_positive, each_divides}
+use Rattle.column_pick.proofs.CommonLemmas.{over_common}
 use Rattle.column_pick.specs.Fixed.{padded, fixed_point}
 use Rattle.column_pick.specs.Nexts.{HasFirst, IsNext}
-use Rattle.column_pick.specs.Ranges.{MeetsAt, MeetsRow, IsWithin, AreWithin}
+use Rattle.column_pick.specs.Ranges.{MeetsRow, IsWithin, AreWithin}
 
 -- ---- padded numbers
 

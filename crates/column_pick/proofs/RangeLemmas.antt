@@ -1,13 +1,13 @@
 -- Caps over one denominator, and the ranges between two of them.
-use Rattle.std.proofs.Common.{◌≡◌, ◌≢◌, ◌↔◌, Bool, true, false, ◌||◌, Option, Some, None, sym, ap, subst, arith, ℤ, pos, negsuc, ◌+ℤ◌, ◌*ℤ◌, ◌≤ℤ◌, ◌<ℤ◌, neg_ℤ}
+use Rattle.std.proofs.Common.{◌≡◌, ◌≢◌, ◌↔◌, Bool, true, false, ◌||◌, Option, Some, None, sym, ap, subst, arith, ℤ, pos, negsuc, ◌+ℤ◌, ◌*ℤ◌, ◌<ℤ◌, neg_ℤ}
 use Rattle.std.proofs.lemmas.Int.{ints}
-use Rattle.poly_specs.proofs.IntLemmas.{products, neg_mul, mul_neg, mul_assoc_int, mul_comm_int, mul_lt_pos, product_positive}
+use Rattle.poly_specs.proofs.IntLemmas.{products, neg_mul, mul_neg, mul_lt_pos, product_positive}
 use Rattle.poly_specs.proofs.FractionLemmas.{AtMost-trans, Below-AtMost, AtMost-Below, Below-AtMost_trans, same-AtMost}
 use Rattle.poly_specs.proofs.LowestLemmas.{lowest-IsFraction, lowest-same}
 use Rattle.poly_specs.specs.Arithmetic.{lowest}
 use Rattle.poly_specs.specs.Fractions.{Fraction, IsFraction, SameFraction, AtMost, Below, opposite}
 use Rattle.poly_specs.specs.Rows.{Allows}
-use Rattle.column_pick.specs.Ranges.{parted, IsUpTo, IsUnder, IsBetween, MeetsAt, IsCapOf, IsLesser, IsNarrowed}
+use Rattle.column_pick.specs.Ranges.{parted, IsUpTo, MeetsAt, IsCapOf, IsLesser, IsNarrowed}
 use Rattle.column_pick.specs.declared.ranges.Cap.{Cap}
 use Rattle.column_pick.specs.declared.ranges.Range.{Range}
 

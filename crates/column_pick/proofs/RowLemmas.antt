@@ -1,5 +1,5 @@
 -- The ranges of rows, a row at a time.
-use Rattle.std.proofs.Common.{◌≡◌, ◌↔◌, Bool, List, [], ◌∷◌, ◌++◌, Option, Some, None, ℕ, sym, subst, ℤ, pos, ◌+ℤ◌, ◌*ℤ◌, ◌<ℤ◌}
+use Rattle.std.proofs.Common.{◌≡◌, Bool, List, [], ◌∷◌, ◌++◌, Option, Some, None, ℕ, sym, subst, ℤ, pos, ◌+ℤ◌, ◌*ℤ◌, ◌<ℤ◌}
 use Rattle.std.specs.Prelude.{All, SomeIff, IfSome}
 use Rattle.std.specs.List.{AllByRecursion}
 use Rattle.std.proofs.lemmas.List.Elements.{All-nil, All-push, All-from_recursion, recursion_from_All}
@@ -7,10 +7,9 @@ use Rattle.lin_row.proofs.FitLemmas.{AllFit-back}
 use Rattle.fm_eliminate.proofs.HoldingLemmas.{some_passes}
 use Rattle.poly_specs.specs.Bits.{FitsBits, NonePasses, SomePasses}
 use Rattle.poly_specs.specs.Evaluation.{running, eval_numbers}
-use Rattle.poly_specs.specs.Fractions.{IsFraction}
 use Rattle.poly_specs.specs.Lists.{dot}
 use Rattle.poly_specs.specs.Rows.{Point, Row, over, row_value, coef_at}
-use Rattle.column_pick.specs.Ranges.{IsBetween, IsWithin, IsNarrowed, IsRangeOf}
+use Rattle.column_pick.specs.Ranges.{IsWithin, IsNarrowed, IsRangeOf}
 use Rattle.column_pick.specs.declared.ranges.Range.{Range}
 
 all_push : (P : Row → Type 0) (rows : List Row) (r : Row) → All P (rows ++ r ∷ []) → All P rows × P r

@@ -1,5 +1,5 @@
 -- Numbers that are picked one after the other.
-use Rattle.std.proofs.Common.{◌≡◌, ◌⊎◌, inl, inr, ℕ, zero, suc, ◌+◌, ◌-◌, ◌<◌, ◌≤◌, List, [], ◌∷◌, ◌++◌, length, length-append, replicate, take, get_or, Result, Ok, Err, refl, sym, ◌∙◌, ap, subst, arith, ℤ, pos, unsigned_abs}
+use Rattle.std.proofs.Common.{◌≡◌, inl, inr, ℕ, suc, ◌+◌, ◌-◌, ◌<◌, ◌≤◌, List, [], ◌∷◌, ◌++◌, length, length-append, replicate, take, get_or, Result, Ok, Err, refl, sym, ◌∙◌, ap, subst, arith, ℤ, pos}
 use Rattle.std.specs.Prelude.{All, IfOk}
 use Rattle.fm_eliminate.specs.declared.RowFault.{RowFault}
 use Rattle.std.proofs.Math.ListN.{get_or-append}
@@ -20,16 +20,16 @@ use Rattle.poly_specs.specs.Elimination.{eliminated_each, columns_down}
 use Rattle.poly_specs.specs.Evaluation.{eval_numbers}
 use Rattle.poly_specs.specs.Fractions.{Fraction, IsFraction, SameFraction, zero_fraction}
 use Rattle.poly_specs.specs.Lists.{In}
-use Rattle.poly_specs.specs.Pickings.{Picking, picked_at, IsOpen, ArePickedNumbers, PickPasses, FixedPass, LevelPasses, IsMiddlePicked, lowest_numbers, middle_numbers}
+use Rattle.poly_specs.specs.Pickings.{Picking, picked_at, IsOpen, ArePickedNumbers, PickPasses, middle_numbers}
 use Rattle.poly_specs.specs.Picks.{IsPick}
-use Rattle.poly_specs.specs.Rows.{Point, Row, Holds, coordinate, AllWide, SamePoint}
+use Rattle.poly_specs.specs.Rows.{Point, Row, coordinate, AllWide, SamePoint}
 use Rattle.poly_specs.specs.Systems.{System, IsLevel}
 use Rattle.column_pick.proofs.BetweenLemmas.{open_gap_same}
 use Rattle.column_pick.proofs.CommonLemmas.{pushed_passes}
 use Rattle.column_pick.proofs.NextLemmas.{base-den, base-length, base-given, is_given, next_member}
 use Rattle.column_pick.specs.Fixed.{padded, fixed_point}
 use Rattle.column_pick.specs.Nexts.{HasFirst, IsNext, RowPasses, NextPasses}
-use Rattle.column_pick.specs.RangePicks.{IsOpenGap, FormingPasses}
+use Rattle.column_pick.specs.RangePicks.{IsOpenGap}
 use Rattle.column_pick.specs.Picked.{ArePickedSoFar, PickingPasses, IsPickedPoint}
 
 -- ---- lists that begin alike

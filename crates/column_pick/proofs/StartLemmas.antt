@@ -1,15 +1,15 @@
 -- The numbers of the given point, with which some point of the whole system begins.
-use Rattle.std.proofs.Common.{◌≡◌, ℕ, ◌+◌, ◌-◌, ◌<◌, ◌≤◌, List, [], ◌∷◌, ◌++◌, length, length-append, map, take, replicate, get_or, sym, ◌∙◌, ap, subst, arith, ℤ, pos, ◌<ℤ◌, ◌*ℤ◌}
+use Rattle.std.proofs.Common.{◌≡◌, ℕ, ◌+◌, ◌-◌, ◌<◌, ◌≤◌, List, [], ◌∷◌, ◌++◌, length, length-append, take, replicate, get_or, sym, ◌∙◌, ap, subst, arith, ℤ, pos, ◌<ℤ◌}
 use Rattle.std.specs.Prelude.{All}
 use Rattle.std.proofs.Math.ListN.{get_or-append}
 use Rattle.std.proofs.lemmas.List.{length-map, length-replicate, get_or-map, take_more}
 use Rattle.poly_specs.proofs.FractionLemmas.{same-trans}
 use Rattle.poly_specs.proofs.LowestLemmas.{lowest-IsFraction, lowest-same}
 use Rattle.poly_specs.specs.Arithmetic.{lowest}
-use Rattle.poly_specs.specs.Fractions.{Fraction, IsFraction, SameFraction, zero_fraction, fractions}
+use Rattle.poly_specs.specs.Fractions.{Fraction, SameFraction, zero_fraction, fractions}
 use Rattle.poly_specs.specs.LowestTerms.{IsLowest}
 use Rattle.poly_specs.specs.Lists.{number_at}
-use Rattle.poly_specs.specs.Rows.{Point, coordinate, AllHold, SameBefore, over}
+use Rattle.poly_specs.specs.Rows.{Point, coordinate, AllHold, over}
 use Rattle.poly_specs.specs.Systems.{System, Levels, AreLevels, IsLevel, no_system}
 use Rattle.column_pick.proofs.GapLemmas.{lowest_is}
 use Rattle.column_pick.proofs.NextLemmas.{before_coordinates}

@@ -1,8 +1,8 @@
 -- The whole numbers within a cap, by the whole part of its end.
-use Rattle.std.proofs.Common.{◌≡◌, ◌↔◌, ◌∙◌, Bool, true, false, not, Option, Some, None, sym, ap, subst, arith, ℤ, pos, negsuc, ◌+ℤ◌, ◌*ℤ◌, ◌≤ℤ◌, ◌<ℤ◌, neg_ℤ}
+use Rattle.std.proofs.Common.{◌≡◌, ◌↔◌, Bool, true, false, not, Option, Some, None, sym, subst, arith, ℤ, pos, ◌+ℤ◌, ◌*ℤ◌, ◌≤ℤ◌, ◌<ℤ◌, neg_ℤ}
 use Rattle.std.specs.Prelude.{MatchBool, MatchOption}
 use Rattle.std.proofs.lemmas.Int.{ints, by_lt_z}
-use Rattle.poly_specs.proofs.IntLemmas.{products, add_mul, neg_mul, mul_le, mul_comm_int, le_cancel, product_positive}
+use Rattle.poly_specs.proofs.IntLemmas.{products, neg_mul, mul_le, mul_comm_int, product_positive}
 use Rattle.poly_specs.specs.Fractions.{Fraction, IsFraction, opposite}
 use Rattle.poly_specs.specs.Arithmetic.{IsKept}
 use Rattle.poly_specs.specs.Bits.{FitsBits}

@@ -1,5 +1,5 @@
 -- The values that a system leaves for the column after some fixed numbers, and when picking one of them passes 128 bits.
-use Rattle.std.specs.Prelude.{◌≡◌, ◌⊎◌, ℕ, ◌+◌, ◌-◌, ◌<◌, List, length, pos, slice_index_or}
+use Rattle.std.specs.Prelude.{◌⊎◌, ℕ, ◌+◌, ◌-◌, ◌<◌, List, length, pos, slice_index_or}
 use Rattle.poly_specs.specs.Bits.{SomePasses}
 use Rattle.poly_specs.specs.Bounds.{IsPoint}
 use Rattle.poly_specs.specs.Denominators.{common_den, common_nums, common_numbers}

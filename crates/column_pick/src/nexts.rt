@@ -10,7 +10,7 @@ ghost use Rattle.column_pick.specs.Nexts.{whole_of, HasFirst, IsNext, AnyPasses,
 ghost use Rattle.column_pick.specs.RangePicks.{FormingPasses};
 ghost use Rattle.column_pick.specs.Ranges.{IsBetween, AreWithin};
 
-use crate::common::{fixed_point, see_all_kept};
+use crate::common::fixed_point;
 use crate::picks::pick_between;
 use crate::ranges::{Range, range_at, see_kept_point};
 use fm_eliminate::{Levels, RowFault, System};
@@ -69,7 +69,6 @@ pub fn pick_next(alloc: Global, levels: &Levels, numbers: &[Frac]) -> Result<Fra
     ensures ok { IfOk result (λ v. IsLowest v × IsPick (IsNext (whole_of levels.now) numbers.now) v) }
     ensures passes { result ≡ Err RowFault.Passes → NextPasses (whole_of levels.now) numbers.now }
 {
-    see_all_kept(numbers);
     let level = level_at(levels, numbers.len());
     let point = fixed_point(alloc, numbers, level.width())?;
     pick_over(level.rows(), &point, numbers.len())

@@ -48,7 +48,8 @@ fn number_at(point: &Point, i: usize) -> Frac
 /// The number of columns of the whole system.
 fn width_of(levels: &Levels) -> usize
     requires { AreLevels levels.now.first (whole_of levels.now) levels.now }
-    ensures { result ≡ (whole_of levels.now).width }
+    ensures value { result ≡ (whole_of levels.now).width }
+    ensures few { result ≤ 14 }
 {
     levels.systems()[0].width()
 }

@@ -8,7 +8,7 @@ use Rattle.column_pick.proofs.nexts.pick_next.Goals as goal
 
 before : (c : goal.After-point-2-1) → AtColumn (whole_of c.args.levels.now) c.args.numbers.now c.rows.result.now c.in_ok-point.point
 before c = record {
-  fractions = λ k d h. (c.see_all_kept.ensures k d h).positive;
+  fractions = λ k d h. (c.in_ok-point.ensures.kept k d h).positive;
   within = c.requires.within;
   is_level = subst (λ (rs : List Row). IsLevel (whole_of c.args.levels.now).width (length c.args.numbers.now + 1) (whole_of c.args.levels.now).rows rs) (sym c.rows.ensures.value) c.level_at-level.ensures.level;
   some = c.requires.some;
@@ -20,7 +20,7 @@ pick_over-requires-clause-some c = column_some (whole_of c.args.levels.now) c.ar
 
 after : (c : goal.After-drop-point-inside) → AtColumn (whole_of c.args.levels.now) c.args.numbers.now c.rows.result.now c.in_ok-point.point
 after c = record {
-  fractions = λ k d h. (c.see_all_kept.ensures k d h).positive;
+  fractions = λ k d h. (c.in_ok-point.ensures.kept k d h).positive;
   within = c.requires.within;
   is_level = subst (λ (rs : List Row). IsLevel (whole_of c.args.levels.now).width (length c.args.numbers.now + 1) (whole_of c.args.levels.now).rows rs) (sym c.rows.ensures.value) c.level_at-level.ensures.level;
   some = c.requires.some;

@@ -3,7 +3,6 @@ use Rattle.std.specs.Int.{w128}
 use Rattle.std.proofs.lemmas.Int.{to_z-of_z}
 use Rattle.poly_specs.specs.Arithmetic.{lowest}
 use Rattle.poly_specs.specs.Bits.{NonePasses}
-use Rattle.poly_specs.specs.Fractions.{Fraction}
 use Rattle.poly_specs.specs.Pickings.{lowest_numbers}
 use Rattle.column_pick.specs.Ranges.{parted}
 use Rattle.column_pick.proofs.PartedLemmas.{no_low, no_high, middle_formed}

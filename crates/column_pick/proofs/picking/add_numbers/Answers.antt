@@ -4,8 +4,8 @@ use Rattle.std.proofs.lemmas.List.Elements.{All-push}
 use Rattle.fm_eliminate.specs.declared.RowFault.TheVariants.{Passes}
 use Rattle.poly_specs.specs.Fractions.{Fraction}
 use Rattle.poly_specs.specs.LowestTerms.{IsLowest}
-use Rattle.poly_specs.specs.Systems.{System, IsLevel, no_system}
-use Rattle.column_pick.specs.Nexts.{whole_of, NextPasses}
+use Rattle.poly_specs.specs.Systems.{System, no_system}
+use Rattle.column_pick.specs.Nexts.{whole_of}
 use Rattle.column_pick.specs.Picked.{ArePickedSoFar}
 use Rattle.column_pick.proofs.LevelLemmas.{level_of, whole_wide}
 use Rattle.column_pick.proofs.SoFarLemmas.{so_far_more, next_picking}

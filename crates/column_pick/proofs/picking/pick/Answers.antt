@@ -1,4 +1,4 @@
-use Rattle.std.proofs.Common.{◌≡◌, ◌∙◌, ◌≤◌, ℕ, List, length, sym, ap, subst, arith}
+use Rattle.std.proofs.Common.{◌≡◌, ◌∙◌, ◌≤◌, ℕ, List, length, sym, subst, arith}
 use Rattle.std.specs.Prelude.{All, IfOk}
 use Rattle.poly_specs.specs.Bits.{SomePasses}
 use Rattle.poly_specs.specs.Denominators.{common_numbers}
@@ -31,7 +31,7 @@ module _ (c : goal.After-drop-numbers-2) where
   numbers = c.add_numbers.new.numbers.items
 
   sized : length numbers ≡ s.width
-  sized = c.in_ok-add_numbers.ensures.sized ∙ c.width_of-width.ensures
+  sized = c.in_ok-add_numbers.ensures.sized ∙ c.width_of-width.ensures.value
 
   so_far : ArePickedSoFar s (numbers_of c.args.fixed.now) numbers
   so_far = subst (λ (xs : List Fraction). ArePickedSoFar s xs numbers) c.in_ok-numbers.ensures c.in_ok-add_numbers.ensures.picked
@@ -39,7 +39,7 @@ module _ (c : goal.After-drop-numbers-2) where
 pub returns-clause-ok : goal.returns-clause-ok
 returns-clause-ok c =
     picked_answer (s c) (numbers_of c.args.fixed.now) (numbers c) (sized c) c.in_ok-add_numbers.ensures.lowest (so_far c) c.fixed_point.result
-    (subst (λ (w : ℕ). IfOk c.fixed_point.result (λ p. p ≡ fixed_point w (numbers c))) c.width_of-width.ensures
+    (subst (λ (w : ℕ). IfOk c.fixed_point.result (λ p. p ≡ fixed_point w (numbers c))) c.width_of-width.ensures.value
     (subst (λ (xs : List Fraction). IfOk c.fixed_point.result (λ p. p ≡ fixed_point c.width_of-width.result xs)) c.as_slice.ensures.value c.fixed_point.ensures.ok))
 
 pub returns-clause-passes : goal.returns-clause-passes

@@ -1,14 +1,12 @@
-use Rattle.std.proofs.Common.{◌≡◌, ◌∙◌, ℤ, neg_ℤ, Some, None, SFits, rules, subst, sym, ap, to_z, of_z}
+use Rattle.std.proofs.Common.{◌∙◌, ℤ, neg_ℤ, Some, SFits, rules, subst, sym, ap}
 use Rattle.std.specs.Int.{w128}
 use Rattle.std.proofs.lemmas.Int.{to_z-of_z}
-use Rattle.poly_specs.specs.Bits.{FitsBits}
 use Rattle.poly_specs.specs.Picks.{HasNoInteger}
 use Rattle.poly_specs.specs.Sets.{HasMember}
 use Rattle.poly_specs.proofs.SetLemmas.{member_within}
 use Rattle.column_pick.specs.Ranges.{IsBetween, IsUnder, whole, IsLeastWhole, HasNoWhole}
 use Rattle.column_pick.specs.RangePicks.{IsPickOf, IsInGap, opposite_cap}
 use Rattle.column_pick.specs.declared.ranges.Cap.{Cap}
-use Rattle.column_pick.specs.declared.ranges.Range.{Range}
 use Rattle.column_pick.proofs.BetweenLemmas.{to_gap, from_gap, none_under, pick_of_same, under_whole, whole_pick}
 use Rattle.column_pick.proofs.picks.pick_below.Goals as goal
 

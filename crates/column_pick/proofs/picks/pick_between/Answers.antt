@@ -1,7 +1,7 @@
-use Rattle.std.proofs.Common.{◌≡◌, ◌∙◌, ℤ, pos, Option, Some, None, SFits, rules, subst, sym, ap, to_z, of_z}
+use Rattle.std.proofs.Common.{ℤ, pos, Option, Some, SFits, rules, subst, sym}
 use Rattle.std.specs.Int.{w128}
 use Rattle.std.proofs.lemmas.Int.{to_z-of_z}
-use Rattle.column_pick.specs.Ranges.{IsBetween, whole}
+use Rattle.column_pick.specs.Ranges.{IsBetween}
 use Rattle.column_pick.specs.RangePicks.{IsPickOf}
 use Rattle.column_pick.specs.declared.ranges.Cap.{Cap}
 use Rattle.column_pick.proofs.BetweenLemmas.{whole_pick, zero_picked}

@@ -1,14 +1,8 @@
-use Rattle.std.proofs.Common.{◌≡◌, ◌∙◌, ℤ, neg_ℤ, Some, None, SFits, rules, subst, sym, ap, to_z, of_z}
+use Rattle.std.proofs.Common.{◌≡◌, ◌∙◌, ℤ, Some, None, SFits, rules, subst, ap}
 use Rattle.std.specs.Int.{w128}
 use Rattle.std.proofs.lemmas.Int.{to_z-of_z}
 use Rattle.poly_specs.specs.Bits.{FitsBits}
-use Rattle.poly_specs.specs.Picks.{HasNoInteger}
-use Rattle.poly_specs.specs.Sets.{HasMember}
-use Rattle.poly_specs.proofs.SetLemmas.{member_within}
-use Rattle.column_pick.specs.Ranges.{IsBetween, IsUnder, whole, IsLeastWhole, HasNoWhole}
-use Rattle.column_pick.specs.RangePicks.{IsPickOf, IsInGap, opposite_cap}
-use Rattle.column_pick.specs.declared.ranges.Cap.{Cap}
-use Rattle.column_pick.specs.declared.ranges.Range.{Range}
+use Rattle.column_pick.specs.Ranges.{IsBetween, whole, IsLeastWhole}
 use Rattle.column_pick.proofs.BetweenLemmas.{above_whole, whole_pick, whole_too_far}
 use Rattle.column_pick.proofs.picks.pick_from.Goals as goal
 

@@ -1,4 +1,4 @@
-use Rattle.std.proofs.Common.{◌≡◌, ◌∙◌, SFits, rules, subst, sym, to_z, of_z, None, ℤ, List, SomeIff}
+use Rattle.std.proofs.Common.{◌∙◌, SFits, rules, subst, ℤ, List, SomeIff}
 use Rattle.std.specs.Int.{w128}
 use Rattle.std.proofs.lemmas.Int.{to_z-of_z}
 use Rattle.poly_specs.specs.Bits.{NonePasses}
