@@ -1,23 +1,22 @@
 -- The rows after the plain stages of a gap hold exactly at the ends of its gap runs.
-use Rattle.std.proofs.Common.{◌≡◌, ◌↔◌, ℕ, ◌+◌, ◌<◌, inl, inr, List, length, Option, Some, None, refl, sym, ap, subst, arith, ℤ, pos, ◌<ℤ◌}
-use Rattle.std.specs.Prelude.{IfSome, slice_index_or, All}
+use Rattle.std.proofs.Common.{◌≡◌, ◌↔◌, ℕ, ◌<◌, inl, inr, List, length, Option, Some, None, sym, subst, arith, pos, ◌<ℤ◌}
+use Rattle.std.specs.Prelude.{IfSome, All}
 use Rattle.std.proofs.lemmas.Bool.{cases_lt}
 use Rattle.std.proofs.lemmas.List.{get_or_past}
 use Rattle.run_specs.proofs.GapEnds.{IsGapCase, AllReached, gap_there}
 use Rattle.run_specs.proofs.RunEndLemmas.{all_same}
-use Rattle.run_specs.proofs.StageWidths.{end_within}
-use Rattle.poly_specs.specs.Fractions.{Fraction, IsFraction, zero_fraction, AtMost}
+use Rattle.poly_specs.specs.Fractions.{Fraction, IsFraction, zero_fraction}
 use Rattle.poly_specs.specs.LowestTerms.{IsLowest}
-use Rattle.poly_specs.specs.Rows.{Point, AllHold, over}
+use Rattle.poly_specs.specs.Rows.{Point, AllHold}
 use Rattle.run_specs.specs.Automaton.{Automaton, width, tolerance_at}
 use Rattle.run_specs.specs.Keys.{State, Key, IsState, IsKey, no_state, parent_at}
 use Rattle.run_specs.specs.Logs.{cell_at}
 use Rattle.run_specs.specs.Outcomes.{MayTake, LeadsTo, IsEnd}
 use Rattle.run_specs.specs.Passes.{Fits}
-use Rattle.run_specs.specs.Runs.{GapRun, path_of, start_point, end_point}
+use Rattle.run_specs.specs.Runs.{GapRun, path_of, end_point}
 use Rattle.run_specs.specs.Stages.{gap_stages, gap_rows}
 use Rattle.run_specs.specs.WellFormed.{IsWellFormed}
-use Rattle.sample_succ.proofs.GapBack.{GapBack, gap_back}
+use Rattle.sample_succ.proofs.GapBack.{gap_back}
 
 -- each tolerance is a fraction, past the last 0
 tolerance_is : (a : Automaton) → IsWellFormed a → (j : ℕ) → IsFraction (tolerance_at a j)

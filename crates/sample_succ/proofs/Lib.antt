@@ -1,9 +1,11 @@
 pub mod StageFacts
 pub mod FreeColumns
+pub mod ScaledRuns
 pub mod GapBack
 pub mod GapExact
 pub mod SampleRows
 pub mod PlainLemmas
+pub mod PrunedLemmas
 pub mod StartLemmas
 pub mod PathLemmas
 pub mod LateLemmas
@@ -13,4 +15,6 @@ pub mod WalkLemmas
 pub mod StepLemmas
 pub mod VisitLemmas
 pub mod GapStartLemmas
+pub mod ParentLemmas
 pub mod PartLemmas
+pub mod AnswerLemmas
