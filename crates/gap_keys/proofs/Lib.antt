@@ -1,1 +1,2 @@
 pub mod KeyEquality
+pub mod StateLemmas

@@ -1,6 +1,6 @@
 -- What equal options feed to a hasher.
 use Rattle.std.specs.Prelude.{◌≡◌, Bool, true, Option, Some, None}
-use Rattle.std.proofs.Common.{ap, refl, ◌++◌}
+use Rattle.std.proofs.Common.{ap, refl}
 use Rattle.std.specs.Hash as fed
 use Rattle.std.specs.Hash.{Alike, HashWrites}
 use Rattle.std.specs.Option.{option_eq}

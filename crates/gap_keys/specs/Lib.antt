@@ -1,2 +1,4 @@
 pub mod Answering
 pub mod Feeding
+pub mod States
+pub mod Views

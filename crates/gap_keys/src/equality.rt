@@ -2,12 +2,13 @@
 
 ghost use Rattle.std.specs.Prelude.{◌≡◌, ◌↔◌, IsTrue};
 ghost use Rattle.run_specs.specs.Keys as keys;
+ghost use Rattle.gap_keys.specs.Views.{StateView};
 
 use crate::{Key, State};
 
-/// States are equal exactly where their records are.
+/// States are equal exactly where their records are, and their systems were made for as many columns.
 pub fn equal_states()
-    ensures { (x y : keys.State) → IsTrue (⟦<State as PartialEq>⟧.eq x y) ↔ (x ≡ y) }
+    ensures { (x y : StateView) → IsTrue (⟦<State as PartialEq>⟧.eq x y) ↔ (x ≡ y) }
 {}
 
 /// Keys are equal exactly where their records are.

@@ -1,18 +1,18 @@
 //! Keys: all that the states after a gap depend on.
 
-ghost use Rattle.std.specs.Prelude.{◌≡◌, ◌↔◌, ◌≤◌, ◌<◌, All, IfOk, IfSome, IsTrue, SomeIff, length, pos};
+ghost use Rattle.std.specs.Prelude.{◌≡◌, ◌↔◌, All, IfOk, IfSome, IsTrue, SomeIff};
 ghost use Rattle.std.specs.Arc.{arc_value};
 ghost use Rattle.poly_specs.specs.Fractions.{AtMost, zero_fraction};
 ghost use Rattle.poly_specs.specs.LowestTerms.{IsLowest};
-ghost use Rattle.poly_specs.specs.Rows.{AllWide};
 ghost use Rattle.run_specs.specs.Automaton.{width};
 ghost use Rattle.run_specs.specs.Keys as keys;
 ghost use Rattle.run_specs.specs.Keys.{IsKey, IsState};
+ghost use Rattle.gap_keys.specs.States.{IsStateOf};
+ghost use Rattle.gap_keys.specs.Views.{AreWide, states_of};
 
 use crate::states::{Belief, State};
 use frac128::Frac;
 use lha_model::Automaton;
-use lin_row::Row;
 use std::alloc::{AllocError, Global};
 use std::marker::Model;
 use std::sync::Arc;
@@ -20,7 +20,7 @@ use std::sync::Arc;
 /// What the states after a gap depend on: the automaton, how many jumps a gap may have, the states
 /// before the gap, its length, and what the sample after it observes of each variable.
 ///
-/// The states are in locations of the automaton and have rows over its variables, the length is at
+/// The states are in locations of the automaton and have systems over its variables, the length is at
 /// least 0, there are at most 6 jumps, and one place for each variable.
 #[derive(Debug, Drop)]
 pub struct Key {
@@ -33,37 +33,40 @@ pub struct Key {
 
 impl Model for Key {
     ghost use Rattle.std.specs.Arc.{arc_value};
+    ghost use Rattle.run_specs.specs.Automaton.{width};
     ghost use Rattle.run_specs.specs.Keys.{Key as KeyValue, IsKey};
+    ghost use Rattle.gap_keys.specs.Views.{AreWide, states_of};
 
     ghost Value = { KeyValue };
 
-    ghost view = { λ k. record { automaton = arc_value k.automaton; jumps = k.jumps; belief = k.belief; gap = k.gap; seen = k.seen.items } };
+    ghost view = { λ k. record { automaton = arc_value k.automaton; jumps = k.jumps; belief = states_of k.belief; gap = k.gap; seen = k.seen.items } };
 
-    ghost invariant = { λ k. IsKey (record { automaton = arc_value k.automaton; jumps = k.jumps; belief = k.belief; gap = k.gap; seen = k.seen.items }) };
+    ghost invariant = { λ k. IsKey (record { automaton = arc_value k.automaton; jumps = k.jumps; belief = states_of k.belief; gap = k.gap; seen = k.seen.items })
+        × AreWide (width (arc_value k.automaton)) k.belief };
 }
 
 /// The most jumps in a gap.
 const MOST_JUMPS: u8 = 6;
 
-/// Whether each row has this width.
-fn are_wide(rows: &[Row], width: usize) -> bool
-    ensures { IsTrue result ↔ AllWide width rows.now }
-{
-    rows.iter().all(|row| row.coef().len() == width)
-}
-
-/// Whether it is a state of the automaton.
+/// Whether it is a state of the automaton, with a system over its variables.
 fn is_state(state: &State, a: &Automaton) -> bool
-    ensures { IsTrue result ↔ IsState a.now state.now }
+    ensures { IsTrue result ↔ IsStateOf a.now state.now }
 {
-    usize::from(state.loc()) < a.locs().len() && are_wide(state.rows().rows(), a.vars().len())
+    usize::from(state.loc()) < a.locs().len() && state.system().width() == a.vars().len()
 }
 
-/// Whether each is a state of the automaton.
-fn are_states(states: &[State], a: &Automaton) -> bool
-    ensures { IsTrue result ↔ All (IsState a.now) states.now }
+/// Whether each is.
+fn is_each_state(states: &[State], a: &Automaton) -> bool
+    ensures { IsTrue result ↔ All (IsStateOf a.now) states.now }
 {
     states.iter().all(|state| is_state(state, a))
+}
+
+/// Whether they are states of the automaton, and their systems are over its variables.
+fn are_states(states: &[State], a: &Automaton) -> bool
+    ensures { IsTrue result ↔ (All (IsState a.now) (states_of states.now) × AreWide (width a.now) states.now) }
+{
+    is_each_state(states, a)
 }
 
 /// Whether it is the length of a gap: at least 0.
@@ -93,7 +96,7 @@ fn show_cells(cells: &[Option<Frac>])
 
 /// Whether these parts are those of a key.
 fn is_key(a: &Automaton, jumps: u8, belief: &Belief, gap: &Frac, seen: &[Option<Frac>]) -> bool
-    ensures { IsTrue result ↔ IsKey (record { automaton = a.now; jumps = jumps; belief = belief.now; gap = gap.now; seen = seen.now }) }
+    ensures { IsTrue result ↔ (IsKey (record { automaton = a.now; jumps = jumps; belief = states_of belief.now; gap = gap.now; seen = seen.now }) × AreWide (width a.now) belief.now) }
 {
     show_cells(seen);
     jumps <= MOST_JUMPS
@@ -111,8 +114,8 @@ impl Key {
         gap: Frac,
         seen: Vec<Option<Frac>>,
     ) -> Option<Key>
-        ensures { let k : keys.Key = record { automaton = arc_value automaton; jumps = jumps; belief = belief; gap = gap; seen = seen.items } in
-            SomeIff result (IsKey k) k }
+        ensures { let k : keys.Key = record { automaton = arc_value automaton; jumps = jumps; belief = states_of belief; gap = gap; seen = seen.items } in
+            SomeIff result (IsKey k × AreWide (width k.automaton) belief) k }
     {
         if !is_key(&automaton, jumps, &belief, &gap, seen.as_slice()) {
             return None;
@@ -142,9 +145,10 @@ impl Key {
         self.jumps
     }
 
-    /// The states before the gap.
+    /// The states before the gap. Their systems are over the automaton's variables.
     pub fn belief(&self) -> &Belief
-        ensures value { result.now ≡ self.now.belief }
+        ensures value { states_of result.now ≡ self.now.belief }
+        ensures wide { AreWide (width self.now.automaton) result.now }
         ensures kept { IsKey self.now }
     {
         &self.belief

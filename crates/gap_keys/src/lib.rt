@@ -4,6 +4,7 @@
 //! What a contract sees of each is the record of the definitions in `run_specs`.
 #![tactic(auto)]
 
+mod crossing;
 pub mod equality;
 mod key_equality;
 mod keys;

@@ -1,11 +1,14 @@
 //! The states after a gap.
 
 ghost use Rattle.std.specs.Prelude.{◌≡◌};
+ghost use Rattle.gap_keys.specs.Views.{state_view};
 
 use crate::states::State;
 use std::marker::Model;
 
 /// A state after a gap, with the number of the state before it and the path from there.
+///
+/// A contract sees the item of the definitions, and for how many columns its state's system was made.
 #[derive(Debug, Drop)]
 pub struct Item {
     parent: usize,
@@ -14,17 +17,17 @@ pub struct Item {
 }
 
 impl Model for Item {
-    ghost use Rattle.run_specs.specs.Outcomes.{Item as ItemValue};
+    ghost use Rattle.gap_keys.specs.Views.{ItemView};
 
-    ghost Value = { ItemValue };
+    ghost Value = { ItemView };
 
-    ghost view = { λ x. record { parent = x.parent; path = x.path.items; state = x.state } };
+    ghost view = { λ x. record { item = record { parent = x.parent; path = x.path.items; state = x.state.state }; width = x.state.width } };
 }
 
 impl Item {
     /// An item of these fields. Takes no memory.
     pub fn new(parent: usize, path: Vec<u8>, state: State) -> Item
-        ensures { result ≡ record { parent = parent; path = path.items; state = state } }
+        ensures { result ≡ record { item = record { parent = parent; path = path.items; state = state.state }; width = state.width } }
     {
         Item {
             parent,
@@ -35,21 +38,21 @@ impl Item {
 
     /// The number of the state before the gap.
     pub fn parent(&self) -> usize
-        ensures { result ≡ self.now.parent }
+        ensures { result ≡ self.now.item.parent }
     {
         self.parent
     }
 
     /// The numbers of the transitions from there, in order.
     pub fn path(&self) -> &[u8]
-        ensures { result.now ≡ self.now.path }
+        ensures { result.now ≡ self.now.item.path }
     {
         self.path.as_slice()
     }
 
     /// The state.
     pub fn state(&self) -> &State
-        ensures { result.now ≡ self.now.state }
+        ensures { result.now ≡ state_view self.now }
     {
         &self.state
     }
@@ -63,9 +66,9 @@ pub struct Next {
 
 impl Model for Next {
     ghost use Rattle.std.specs.Prelude.{List};
-    ghost use Rattle.run_specs.specs.Outcomes.{Item as ItemValue};
+    ghost use Rattle.gap_keys.specs.Views.{ItemView};
 
-    ghost Value = { List ItemValue };
+    ghost Value = { List ItemView };
 
     ghost view = { λ n. n.items.items };
 }

@@ -1,71 +1,73 @@
 //! The states where runs may stand.
 
-ghost use Rattle.std.specs.Prelude.{◌≡◌, IfOk, length, pos, All};
+ghost use Rattle.std.specs.Prelude.{◌≡◌, IfOk};
 ghost use Rattle.poly_specs.specs.Systems.{IsKeptSystem};
+ghost use Rattle.gap_keys.specs.Views.{system_of};
 
 use fm_eliminate::System;
 use std::alloc::{AllocError, Global};
 use std::marker::Model;
 
-/// Where a run may stand: a location, whether a run to here visited an unsafe one, and the rows of
+/// Where a run may stand: a location, whether a run to here visited an unsafe one, and the system of
 /// the values.
 ///
-/// A contract sees the rows alone, and not for how many columns the system was made.
+/// A contract sees the state of the definitions, and for how many columns its system was made.
 #[derive(Debug, Drop)]
 pub struct State {
     loc: u8,
     seen_unsafe: bool,
-    rows: System,
+    system: System,
 }
 
 impl Model for State {
-    ghost use Rattle.run_specs.specs.Keys.{State as StateValue};
+    ghost use Rattle.gap_keys.specs.Views.{StateView};
 
-    ghost Value = { StateValue };
+    ghost Value = { StateView };
 
-    ghost view = { λ s. record { loc = s.loc; seen_unsafe = s.seen_unsafe; rows = s.rows.rows } };
+    ghost view = { λ s. record { state = record { loc = s.loc; seen_unsafe = s.seen_unsafe; rows = s.system.rows }; width = s.system.width } };
 }
 
 impl State {
     /// A state of these fields. Takes no memory.
-    pub fn new(loc: u8, seen_unsafe: bool, rows: System) -> State
-        ensures { result ≡ record { loc = loc; seen_unsafe = seen_unsafe; rows = rows.rows } }
+    pub fn new(loc: u8, seen_unsafe: bool, system: System) -> State
+        ensures { result ≡ record { state = record { loc = loc; seen_unsafe = seen_unsafe; rows = system.rows }; width = system.width } }
     {
         State {
             loc,
             seen_unsafe,
-            rows,
+            system,
         }
     }
 
     /// The number of its location.
     pub fn loc(&self) -> u8
-        ensures { result ≡ self.now.loc }
+        ensures { result ≡ self.now.state.loc }
     {
         self.loc
     }
 
     /// Whether a run to here visited an unsafe location.
     pub fn seen_unsafe(&self) -> bool
-        ensures { result ≡ self.now.seen_unsafe }
+        ensures { result ≡ self.now.state.seen_unsafe }
     {
         self.seen_unsafe
     }
 
-    /// The rows, over the values.
-    pub fn rows(&self) -> &System
-        ensures value { result.now.rows ≡ self.now.rows }
+    /// The system of the values.
+    pub fn system(&self) -> &System
+        ensures value { result.now ≡ system_of self.now }
         ensures kept { IsKeptSystem result.now }
     {
-        self.rows.width();
-        &self.rows
+        self.system.width();
+        &self.system
     }
 
     /// The same state.
     pub fn copy(&self, alloc: Global) -> Result<State, AllocError>
         ensures { IfOk result (λ s. s ≡ self.now) }
     {
-        Ok(State::new(self.loc, self.seen_unsafe, self.rows.copy(alloc)?))
+        let system = self.system.copy(alloc)?;
+        Ok(State::new(self.loc, self.seen_unsafe, system))
     }
 }
 
@@ -77,9 +79,9 @@ pub struct Belief {
 
 impl Model for Belief {
     ghost use Rattle.std.specs.Prelude.{List};
-    ghost use Rattle.run_specs.specs.Keys.{State as StateValue};
+    ghost use Rattle.gap_keys.specs.Views.{StateView};
 
-    ghost Value = { List StateValue };
+    ghost Value = { List StateView };
 
     ghost view = { λ b. b.states.items };
 }

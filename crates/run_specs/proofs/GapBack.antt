@@ -1,21 +1,18 @@
 -- Where the rows after a gap's stages hold, a gap run ends: its parts are written over one denominator.
-use Rattle.std.proofs.Common.{◌≡◌, ℕ, zero, suc, ◌+◌, ◌<◌, List, [], ◌∷◌, ◌++◌, length, length-append, take, drop, Option, refl, sym, ◌∙◌, ap, subst, arith, ℤ, pos, ◌+ℤ◌, ◌-ℤ◌, ◌*ℤ◌, ◌<ℤ◌}
+use Rattle.std.proofs.Common.{◌≡◌, ℕ, ◌+◌, ◌<◌, List, [], ◌∷◌, ◌++◌, length, length-append, take, Option, refl, sym, ◌∙◌, ap, subst, arith, ℤ, pos, ◌+ℤ◌, ◌-ℤ◌, ◌*ℤ◌, ◌<ℤ◌}
 use Rattle.std.proofs.lemmas.Int.{ints}
 use Rattle.std.proofs.lemmas.List.{length-map}
 use Rattle.poly_specs.proofs.FractionLemmas.{same-trans}
-use Rattle.poly_specs.proofs.IntLemmas.{products, expand, product_positive}
+use Rattle.poly_specs.proofs.IntLemmas.{product_positive}
 use Rattle.poly_specs.proofs.LinearLemmas.{SamePoint-trans}
-use Rattle.poly_specs.proofs.ProjectionLemmas.{scaled-scaled}
 use Rattle.run_specs.proofs.EndLemmas.{leg_ends, jump_ends}
-use Rattle.run_specs.proofs.FirstRunLemmas.{scaled-append, split_same}
 use Rattle.run_specs.proofs.GapEnds.{IsGapCase, start_holds}
-use Rattle.run_specs.proofs.HistorySystems.{AreCells, leg_system, jump_system, passing_system, same_leg, same_jump, take_here, drop_here}
+use Rattle.run_specs.proofs.HistorySystems.{AreCells, passing_system}
 use Rattle.run_specs.proofs.MixLemmas.{transitions}
-use Rattle.run_specs.proofs.RunEndLemmas.{all_same}
 use Rattle.run_specs.proofs.SampleEnds.{sample_ends}
 use Rattle.run_specs.proofs.StageWidths.{location_is, transition_is, leg_after_wide, jump_wide_of, path_wide, start_wide}
 use Rattle.run_specs.proofs.SystemLemmas.{at_same_point}
-use Rattle.poly_specs.specs.Lists.{scaled, number_at}
+use Rattle.poly_specs.specs.Lists.{scaled}
 use Rattle.poly_specs.specs.Fractions.{Fraction, IsFraction, SameFraction}
 use Rattle.poly_specs.specs.Rows.{Point, Row, over, AllHold, AllWide, SamePoint}
 use Rattle.run_specs.specs.Automaton.{Automaton, width, location_at, transition_at}
@@ -24,109 +21,10 @@ use Rattle.run_specs.specs.Logs.{IsPassing}
 use Rattle.run_specs.specs.Runs.{Leg, Move, GapRun, IsLeg, IsJump, LeadOn, IsGapRun, path_of, total, start_point, end_point}
 use Rattle.run_specs.specs.Passes.{Fits}
 use Rattle.run_specs.specs.Stages.{rows_after, gap_start, leg_stage, jump_stage, path_rows, gap_rows}
-
--- ---- numbers over a multiple of their denominator
-
-same_scaled : (k d : ℤ) (ns : List ℤ) → SamePoint (over d ns) (over (k *ℤ d) (scaled k ns))
-same_scaled k d ns = scaled-scaled k d ns
-
-swapped : (k d : ℤ) → k *ℤ d ≡ d *ℤ k
-swapped k d = omega (arith, products)
-
-sum_times : (x y k : ℤ) → (x +ℤ y) *ℤ k ≡ x *ℤ k +ℤ y *ℤ k
-sum_times x y k = simp expand (omega (arith, products))
-
-difference_times : (x y k : ℤ) → (x -ℤ y) *ℤ k ≡ (x *ℤ k) -ℤ (y *ℤ k)
-difference_times x y k = simp expand (omega (arith, products))
-
--- points with one more number are equal where both parts are
-pub last_same : (c d e f : ℤ) (v w : List ℤ) → length v ≡ length w → SamePoint (over c (v ++ e ∷ [])) (over d (w ++ f ∷ [])) →
-    (scaled d v ≡ scaled c w) × (e *ℤ d ≡ f *ℤ c)
-last_same c d e f v w l same =
-    let whole : scaled d v ++ (e *ℤ d) ∷ [] ≡ scaled c w ++ (f *ℤ c) ∷ [] = sym (scaled-append d v (e ∷ [])) ∙ same ∙ scaled-append c w (f ∷ []) in
-    let s = split_same (scaled d v) (scaled c w) ((e *ℤ d) ∷ []) ((f *ℤ c) ∷ []) (length-map v (λ n. n *ℤ d) ∙ l ∙ sym (length-map w (λ n. n *ℤ c))) whole in
-    let head : e *ℤ d ≡ f *ℤ c = ap (number_at 0) s.1 in
-    (s.0, head)
-
-last_number : (m : ℕ) (v u : List ℤ) (s : ℤ) → length v ≡ m → (number_at m (v ++ s ∷ u) ≡ s) × (drop (suc m) (v ++ s ∷ u) ≡ u)
-last_number zero [] u s l = (refl, refl)
-last_number zero (x ∷ v) u s l = absurd (omega arith)
-last_number (suc m) [] u s l = absurd (omega arith)
-last_number (suc m) (x ∷ v) u s l = last_number m v u s (omega arith)
-
-take_whole : (m : ℕ) (v : List ℤ) → length v ≡ m → take m v ≡ v
-take_whole zero [] l = refl
-take_whole zero (x ∷ v) l = absurd (omega arith)
-take_whole (suc m) [] l = absurd (omega arith)
-take_whole (suc m) (x ∷ v) l = ap (λ ys. x ∷ ys) (take_whole m v (omega arith))
+use Rattle.run_specs.specs.Ends.{EndsLeg, SomeLegEnds, EndsJump, SomeJumpEnds, EndsSample, SomeSampleEnds}
+use Rattle.run_specs.proofs.ScaledRuns.{last_same, swapped, sum_times, take_whole, leg_scaled, scaled_leg, scaled_moves, total_scaled, transitions_scaled, leg_over, jump_over, lead_over, starts_over, ends_over}
 
 module _ (a : Automaton) (wf : IsWellFormed a) where
-  leg_scaled : (k d : ℤ) (l : ℕ) (p : List ℤ) (t : ℤ) (q : List ℤ) → pos 0 <ℤ k → pos 0 <ℤ d → length p ≡ width a → IsLeg (location_at a l) d p t q →
-      IsLeg (location_at a l) (k *ℤ d) (scaled k p) (t *ℤ k) (scaled k q)
-  leg_scaled k d l p t q hk hd lp leg =
-      let m : ℕ = width a in
-      let n : ℕ = suc m + m in
-      let lq : length q ≡ m = leg.same_size ∙ lp in
-      let lsp : length (scaled k p) ≡ m = length-map p (λ x. x *ℤ k) ∙ lp in
-      let lsq : length (scaled k q) ≡ m = length-map q (λ x. x *ℤ k) ∙ lq in
-      let ns : List ℤ = q ++ t ∷ p in
-      let ms : List ℤ = scaled k q ++ (t *ℤ k) ∷ scaled k p in
-      let same : SamePoint (over d ns) (over (k *ℤ d) ms) = same_scaled k d ns ∙ ap (scaled d) (scaled-append k q (t ∷ p)) in
-      let one = last_number m q p t lq in
-      let two = last_number m (scaled k q) (scaled k p) (t *ℤ k) lsq in
-      let first : IsLeg (location_at a l) d (take m (drop (suc m) ns)) (number_at m ns) (take m ns) =
-      (same_leg (location_at a l) d (take m (drop (suc m) ns)) p (number_at m ns) t (take m ns) q (ap (take m) one.1 ∙ take_whole m p lp) one.0 (take_here m q (t ∷ p) lq)).1 leg in
-      let there = at_same_point n _ (leg_system a l n wf.each_location (omega arith)) d (k *ℤ d) ns ms hd (product_positive k d hk hd)
-      (omega (arith, length-append q (t ∷ p), lq, lp)) (omega (arith, length-append (scaled k q) ((t *ℤ k) ∷ scaled k p), lsq, lsp)) same first in
-      (same_leg (location_at a l) (k *ℤ d) (take m (drop (suc m) ms)) (scaled k p) (number_at m ms) (t *ℤ k) (take m ms) (scaled k q)
-      (ap (take m) two.1 ∙ take_whole m (scaled k p) lsp) two.0 (take_here m (scaled k q) ((t *ℤ k) ∷ scaled k p) lsq)).0 there
-
-  jump_scaled : (k d : ℤ) (e : ℕ) (p q : List ℤ) → pos 0 <ℤ k → pos 0 <ℤ d → length p ≡ width a → IsJump a e d p q → IsJump a e (k *ℤ d) (scaled k p) (scaled k q)
-  jump_scaled k d e p q hk hd lp jump =
-      let m : ℕ = width a in
-      let n : ℕ = m + m in
-      let lq : length q ≡ m = jump.same_size ∙ lp in
-      let lsp : length (scaled k p) ≡ m = length-map p (λ x. x *ℤ k) ∙ lp in
-      let lsq : length (scaled k q) ≡ m = length-map q (λ x. x *ℤ k) ∙ lq in
-      let ns : List ℤ = q ++ p in
-      let ms : List ℤ = scaled k q ++ scaled k p in
-      let same : SamePoint (over d ns) (over (k *ℤ d) ms) = same_scaled k d ns ∙ ap (scaled d) (scaled-append k q p) in
-      let first : IsJump a e d (take m (drop m ns)) (take m ns) =
-      (same_jump a e d (take m (drop m ns)) p (take m ns) q (ap (take m) (drop_here m q p lq) ∙ take_whole m p lp) (take_here m q p lq)).1 jump in
-      let there = at_same_point n _ (jump_system a e n (omega arith)) d (k *ℤ d) ns ms hd (product_positive k d hk hd)
-      (omega (arith, length-append q p, lq, lp)) (omega (arith, length-append (scaled k q) (scaled k p), lsq, lsp)) same first in
-      (same_jump a e (k *ℤ d) (take m (drop m ms)) (scaled k p) (take m ms) (scaled k q)
-      (ap (take m) (drop_here m (scaled k q) (scaled k p) lsq) ∙ take_whole m (scaled k p) lsp) (take_here m (scaled k q) (scaled k p) lsq)).0 there
-
-  -- ---- legs and jumps over a multiple of their denominator
-
-  abbrev scaled_leg : ℤ → Leg → Leg
-  scaled_leg k f = record { length_of = f.length_of *ℤ k; at_end = scaled k f.at_end }
-
-  abbrev scaled_moves : ℤ → List Move → List Move
-  scaled_moves k [] = []
-  scaled_moves k (y ∷ ms) = record { leg = scaled_leg k y.leg; transition = y.transition; after = scaled k y.after } ∷ scaled_moves k ms
-
-  lead_scaled : (k d : ℤ) (l : ℕ) (p : List ℤ) (ms : List Move) (f : Leg) → pos 0 <ℤ k → pos 0 <ℤ d → length p ≡ width a → LeadOn a d l p ms f →
-      LeadOn a (k *ℤ d) l (scaled k p) (scaled_moves k ms) (scaled_leg k f)
-  lead_scaled k d l p [] f hk hd lp h = leg_scaled k d l p f.length_of f.at_end hk hd lp h
-  lead_scaled k d l p (y ∷ ms) f hk hd lp h =
-      let lq : length y.leg.at_end ≡ width a = h.0.same_size ∙ lp in
-      let la : length y.after ≡ width a = h.2.same_size ∙ lq in (
-        leg_scaled k d l p y.leg.length_of y.leg.at_end hk hd lp h.0,
-        h.1,
-        jump_scaled k d y.transition y.leg.at_end y.after hk hd lq h.2,
-        lead_scaled k d (transition_at a y.transition).target y.after ms f hk hd la h.3,
-      )
-
-  total_scaled : (k : ℤ) (ms : List Move) (f : Leg) → total (scaled_moves k ms) (scaled_leg k f) ≡ total ms f *ℤ k
-  total_scaled k [] f = refl
-  total_scaled k (y ∷ ms) f = let r = total_scaled k ms f in ap (λ z. y.leg.length_of *ℤ k +ℤ z) r ∙ sym (sum_times y.leg.length_of (total ms f) k)
-
-  transitions_scaled : (k : ℤ) (ms : List Move) → transitions (scaled_moves k ms) ≡ transitions ms
-  transitions_scaled k [] = refl
-  transitions_scaled k (y ∷ ms) = ap (λ es. y.transition ∷ es) (transitions_scaled k ms)
-
   -- ---- a leg and then a jump
 
   record StepBack (l e : ℕ) (state : List Row) (y : Point) : Type 0 where
@@ -144,30 +42,16 @@ module _ (a : Automaton) (wf : IsWellFormed a) where
     jump : IsJump a e den q z
     ends : SamePoint y (over den (z ++ elapsed ∷ []))
 
-  step_back : (l e : ℕ) (state : List Row) (d : ℤ) (ns : List ℤ) → l < length a.locations → e < length a.transitions → AllWide (width a + 1) state → pos 0 <ℤ d → length ns ≡ width a + 1 →
-      AllHold (rows_after (jump_stage a e (rows_after (leg_stage a l state)))) (over d ns) → StepBack l e state (over d ns)
-  step_back l e state d ns hl he wide hd ln h =
-      let is = location_is a wf l hl in
-      let tr = transition_is a wf e he in
-      let after_leg : List Row = rows_after (leg_stage a l state) in
-      let (d2, q2, e2, p2, J) = (jump_ends a e after_leg d ns tr.relation (location_is a wf (transition_at a e).target tr.target).invariant (leg_after_wide a l state is wide) hd ln).0 h in
+  -- from a jump to y, and a leg to where it starts
+  step_of : (l e : ℕ) (state after_leg : List Row) (y : Point) (d2 d3 : ℤ) (q2 q3 : List ℤ) (e2 e3 t3 : ℤ) (p2 p3 : List ℤ) → EndsJump a e after_leg y d2 q2 e2 p2 →
+      EndsLeg a l state (over d2 (p2 ++ e2 ∷ [])) d3 q3 e3 t3 p3 → StepBack l e state y
+  step_of l e state after_leg y d2 d3 q2 q3 e2 e3 t3 p2 p3 J L =
       let lp2 : length p2 ≡ width a = sym J.jump.same_size ∙ J.sized in
-      let (d3, q3, e3, t3, p3, L) = (leg_ends a l state d2 (p2 ++ e2 ∷ []) is wide J.positive (omega (arith, length-append p2 (e2 ∷ []), lp2))).0 J.starts in
       let lp3 : length p3 ≡ width a = sym L.leg.same_size ∙ L.sized in
       let joined = last_same d2 d3 e2 e3 p2 q3 (lp2 ∙ sym L.sized) L.ends in
-      let den : d3 *ℤ d2 ≡ d2 *ℤ d3 = swapped d3 d2 in
-      let jump : IsJump a e (d3 *ℤ d2) (scaled d3 p2) (scaled d3 q2) = jump_scaled d3 d2 e p2 q2 L.positive J.positive lp2 J.jump in
-      let time : (e3 -ℤ t3) *ℤ d2 ≡ (e3 *ℤ d2) -ℤ (t3 *ℤ d2) = difference_times e3 t3 d2 in
-      let back : scaled d2 (p3 ++ (e3 -ℤ t3) ∷ []) ≡ scaled d2 p3 ++ ((e3 *ℤ d2) -ℤ (t3 *ℤ d2)) ∷ [] =
-      scaled-append d2 p3 ((e3 -ℤ t3) ∷ []) ∙ ap (λ z. scaled d2 p3 ++ z ∷ []) time in
-      let starts = all_same state (over d3 (p3 ++ (e3 -ℤ t3) ∷ [])) (over (d2 *ℤ d3) (scaled d2 (p3 ++ (e3 -ℤ t3) ∷ []))) L.positive (product_positive d2 d3 J.positive L.positive)
-      (same_scaled d2 d3 (p3 ++ (e3 -ℤ t3) ∷ [])) L.starts in
-      let grown : scaled d3 (q2 ++ e2 ∷ []) ≡ scaled d3 q2 ++ (e3 *ℤ d2) ∷ [] = scaled-append d3 q2 (e2 ∷ []) ∙ ap (λ z. scaled d3 q2 ++ z ∷ []) joined.1 in
-      let to_den : SamePoint (over d2 (q2 ++ e2 ∷ [])) (over (d2 *ℤ d3) (scaled d3 q2 ++ (e3 *ℤ d2) ∷ [])) =
-      subst (λ c. SamePoint (over d2 (q2 ++ e2 ∷ [])) (over c (scaled d3 q2 ++ (e3 *ℤ d2) ∷ []))) den
-      (subst (λ xs. SamePoint (over d2 (q2 ++ e2 ∷ [])) (over (d3 *ℤ d2) xs)) grown (same_scaled d3 d2 (q2 ++ e2 ∷ []))) in
+      let c : ℤ = d2 *ℤ d3 in
       record {
-        den = d2 *ℤ d3;
+        den = c;
         p = scaled d2 p3;
         t = t3 *ℤ d2;
         q = scaled d2 q3;
@@ -176,11 +60,29 @@ module _ (a : Automaton) (wf : IsWellFormed a) where
         positive = product_positive d2 d3 J.positive L.positive;
         sized = length-map p3 (λ x. x *ℤ d2) ∙ lp3;
         sized_after = length-map q2 (λ x. x *ℤ d3) ∙ J.sized;
-        starts = subst (λ xs. AllHold state (over (d2 *ℤ d3) xs)) back starts;
-        leg = leg_scaled d2 d3 l p3 t3 q3 J.positive L.positive lp3 L.leg;
-        jump = subst (λ c. IsJump a e c (scaled d2 q3) (scaled d3 q2)) den (subst (λ xs. IsJump a e (d3 *ℤ d2) xs (scaled d3 q2)) joined.0 jump);
-        ends = SamePoint-trans (over d ns) (over d2 (q2 ++ e2 ∷ [])) (over (d2 *ℤ d3) (scaled d3 q2 ++ (e3 *ℤ d2) ∷ [])) J.positive J.ends to_den;
+        starts = starts_over state d2 d3 c e3 t3 p3 J.positive L.positive refl L.starts;
+        leg = leg_scaled a wf d2 d3 l p3 t3 q3 J.positive L.positive lp3 L.leg;
+        jump = jump_over a wf d3 d2 c e p2 q2 (scaled d2 q3) L.positive J.positive lp2 (swapped d3 d2) joined.0 J.jump;
+        ends = SamePoint-trans y (over d2 (q2 ++ e2 ∷ [])) (over c (scaled d3 q2 ++ (e3 *ℤ d2) ∷ [])) J.positive J.ends (ends_over d3 d2 c q2 e2 (e3 *ℤ d2) (swapped d3 d2) joined.1);
       }
+
+  before_jump : (l e : ℕ) (state after_leg : List Row) (y : Point) (d2 : ℤ) (q2 : List ℤ) (e2 : ℤ) (p2 : List ℤ) → EndsJump a e after_leg y d2 q2 e2 p2 →
+      SomeLegEnds a l state (over d2 (p2 ++ e2 ∷ [])) → StepBack l e state y
+  before_jump l e state after_leg y d2 q2 e2 p2 J (d3, q3, e3, t3, p3, L) = step_of l e state after_leg y d2 d3 q2 q3 e2 e3 t3 p2 p3 J L
+
+  at_jump : (l e : ℕ) (state : List Row) (y : Point) → l < length a.locations → AllWide (width a + 1) state → SomeJumpEnds a e (rows_after (leg_stage a l state)) y → StepBack l e state y
+  at_jump l e state y hl wide (d2, q2, e2, p2, J) =
+      let lp2 : length p2 ≡ width a = sym J.jump.same_size ∙ J.sized in
+      before_jump l e state (rows_after (leg_stage a l state)) y d2 q2 e2 p2 J
+      ((leg_ends a l state d2 (p2 ++ e2 ∷ []) (location_is a wf l hl) wide J.positive (omega (arith, length-append p2 (e2 ∷ []), lp2))).0 J.starts)
+
+  step_back : (l e : ℕ) (state : List Row) (d : ℤ) (ns : List ℤ) → l < length a.locations → e < length a.transitions → AllWide (width a + 1) state → pos 0 <ℤ d → length ns ≡ width a + 1 →
+      AllHold (rows_after (jump_stage a e (rows_after (leg_stage a l state)))) (over d ns) → StepBack l e state (over d ns)
+  step_back l e state d ns hl he wide hd ln h =
+      let tr = transition_is a wf e he in
+      let target = location_is a wf (transition_at a e).target tr.target in
+      let leg_wide = leg_after_wide a l state (location_is a wf l hl) wide in
+      at_jump l e state (over d ns) hl wide ((jump_ends a e (rows_after (leg_stage a l state)) d ns tr.relation target.invariant leg_wide hd ln).0 h)
 
   -- ---- a path
 
@@ -198,10 +100,9 @@ module _ (a : Automaton) (wf : IsWellFormed a) where
     pub along : transitions moves ≡ path
     pub ends : SamePoint y (over den (last.at_end ++ (elapsed +ℤ total moves last) ∷ []))
 
-  pub path_back : (l : ℕ) (path : List ℕ) (state : List Row) (d : ℤ) (ns : List ℤ) → l < length a.locations → Fits a l path → AllWide (width a + 1) state → pos 0 <ℤ d → length ns ≡ width a + 1 →
-      AllHold (path_rows a l path state) (over d ns) → PathBack l path state (over d ns)
-  path_back l [] state d ns hl fits wide hd ln h =
-      let (d3, q3, e3, t3, p3, L) = (leg_ends a l state d ns (location_is a wf l hl) wide hd ln).0 h in
+  -- a leg alone
+  path_none : (l : ℕ) (state : List Row) (y : Point) → SomeLegEnds a l state y → PathBack l [] state y
+  path_none l state y (d3, q3, e3, t3, p3, L) =
       let back : (e3 -ℤ t3) +ℤ t3 ≡ e3 = omega (arith, ints) in
       record {
         den = d3;
@@ -215,38 +116,25 @@ module _ (a : Automaton) (wf : IsWellFormed a) where
         starts = L.starts;
         leads = L.leg;
         along = refl;
-        ends = subst (λ z. SamePoint (over d ns) (over d3 (q3 ++ z ∷ []))) (sym back) L.ends;
+        ends = subst (λ z. SamePoint y (over d3 (q3 ++ z ∷ []))) (sym back) L.ends;
       }
-  path_back l (e ∷ path) state d ns hl fits wide hd ln h =
-      let after_leg : List Row = rows_after (leg_stage a l state) in
-      let next : List Row = rows_after (jump_stage a e after_leg) in
-      let leg_wide = leg_after_wide a l state (location_is a wf l hl) wide in
-      let target : ℕ = (transition_at a e).target in
-      let T = path_back target path next d ns (transition_is a wf e fits.0).target fits.2 (jump_wide_of a wf e after_leg fits.0 leg_wide) hd ln h in
-      let S = step_back l e state T.den (T.start ++ T.elapsed ∷ []) hl fits.0 wide T.positive (omega (arith, length-append T.start (T.elapsed ∷ []), T.sized)) T.starts in
-      let c : ℤ = S.den in
+
+  -- the time at the end, by the parts
+  times : (elapsed later t b c s : ℤ) → elapsed *ℤ c ≡ s *ℤ b → (elapsed +ℤ later) *ℤ c ≡ ((s *ℤ b) -ℤ (t *ℤ b)) +ℤ ((t *ℤ b) +ℤ later *ℤ c)
+  times elapsed later t b c s e = let sum = sum_times elapsed later c in omega (arith, ints, sum, e)
+
+  -- a leg and a jump, and then a path
+  path_more : (l e : ℕ) (path : List ℕ) (state next : List Row) (y : Point) → (transition_at a e).source ≡ l → (T : PathBack (transition_at a e).target path next y) →
+      StepBack l e state (over T.den (T.start ++ T.elapsed ∷ [])) → PathBack l (e ∷ path) state y
+  path_more l e path state next y leaves T S =
       let b : ℤ = T.den in
+      let c : ℤ = S.den in
       let joined = last_same b c T.elapsed S.elapsed T.start S.z (T.sized ∙ sym S.sized_after) S.ends in
       let den : b *ℤ c ≡ c *ℤ b = swapped b c in
       let lq : length S.q ≡ width a = S.leg.same_size ∙ S.sized in
-      let leg = subst (λ n. IsLeg (location_at a l) n (scaled b S.p) (S.t *ℤ b) (scaled b S.q)) den (leg_scaled b c l S.p S.t S.q T.positive S.positive S.sized S.leg) in
-      let jump = subst (λ n. IsJump a e n (scaled b S.q) (scaled b S.z)) den (jump_scaled b c e S.q S.z T.positive S.positive lq S.jump) in
-      let tail : LeadOn a (c *ℤ b) target (scaled b S.z) (scaled_moves c T.moves) (scaled_leg c T.last) =
-      subst (λ xs. LeadOn a (c *ℤ b) target xs (scaled_moves c T.moves) (scaled_leg c T.last)) joined.0 (lead_scaled c b target T.start T.moves T.last S.positive T.positive T.sized T.leads) in
-      let time : (S.elapsed -ℤ S.t) *ℤ b ≡ (S.elapsed *ℤ b) -ℤ (S.t *ℤ b) = difference_times S.elapsed S.t b in
-      let back : scaled b (S.p ++ (S.elapsed -ℤ S.t) ∷ []) ≡ scaled b S.p ++ ((S.elapsed *ℤ b) -ℤ (S.t *ℤ b)) ∷ [] =
-      scaled-append b S.p ((S.elapsed -ℤ S.t) ∷ []) ∙ ap (λ z. scaled b S.p ++ z ∷ []) time in
-      let starts = all_same state (over c (S.p ++ (S.elapsed -ℤ S.t) ∷ [])) (over (b *ℤ c) (scaled b (S.p ++ (S.elapsed -ℤ S.t) ∷ []))) S.positive (product_positive b c T.positive S.positive)
-      (same_scaled b c (S.p ++ (S.elapsed -ℤ S.t) ∷ [])) S.starts in
-      let tot = total_scaled c T.moves T.last in
-      let sum : (T.elapsed +ℤ total T.moves T.last) *ℤ c ≡ T.elapsed *ℤ c +ℤ total T.moves T.last *ℤ c = sum_times T.elapsed (total T.moves T.last) c in
-      let whole : (T.elapsed +ℤ total T.moves T.last) *ℤ c ≡ ((S.elapsed *ℤ b) -ℤ (S.t *ℤ b)) +ℤ ((S.t *ℤ b) +ℤ total (scaled_moves c T.moves) (scaled_leg c T.last)) =
-      (let j = joined.1 in omega (arith, ints, sum, tot, j)) in
-      let grown : scaled c (T.last.at_end ++ (T.elapsed +ℤ total T.moves T.last) ∷ [])
-      ≡ scaled c T.last.at_end ++ (((S.elapsed *ℤ b) -ℤ (S.t *ℤ b)) +ℤ ((S.t *ℤ b) +ℤ total (scaled_moves c T.moves) (scaled_leg c T.last))) ∷ [] =
-      scaled-append c T.last.at_end ((T.elapsed +ℤ total T.moves T.last) ∷ []) ∙ ap (λ z. scaled c T.last.at_end ++ z ∷ []) whole in
-      let to_den = subst (λ xs. SamePoint (over b (T.last.at_end ++ (T.elapsed +ℤ total T.moves T.last) ∷ [])) (over (c *ℤ b) xs)) grown
-      (same_scaled c b (T.last.at_end ++ (T.elapsed +ℤ total T.moves T.last) ∷ [])) in
+      let later : ℤ = total T.moves T.last in
+      let time : (T.elapsed +ℤ later) *ℤ c ≡ ((S.elapsed *ℤ b) -ℤ (S.t *ℤ b)) +ℤ ((S.t *ℤ b) +ℤ total (scaled_moves c T.moves) (scaled_leg c T.last)) =
+      times T.elapsed later S.t b c S.elapsed joined.1 ∙ ap (λ z. ((S.elapsed *ℤ b) -ℤ (S.t *ℤ b)) +ℤ ((S.t *ℤ b) +ℤ z)) (sym (total_scaled c T.moves T.last)) in
       record {
         den = c *ℤ b;
         start = scaled b S.p;
@@ -256,11 +144,33 @@ module _ (a : Automaton) (wf : IsWellFormed a) where
         positive = product_positive c b S.positive T.positive;
         sized = length-map S.p (λ x. x *ℤ b) ∙ S.sized;
         sized_end = length-map T.last.at_end (λ x. x *ℤ c) ∙ T.sized_end;
-        starts = subst (λ n. AllHold state (over n (scaled b S.p ++ ((S.elapsed *ℤ b) -ℤ (S.t *ℤ b)) ∷ []))) den (subst (λ xs. AllHold state (over (b *ℤ c) xs)) back starts);
-        leads = (leg, fits.1, jump, tail);
+        starts = starts_over state b c (c *ℤ b) S.elapsed S.t S.p T.positive S.positive den S.starts;
+        leads = (
+          leg_over a wf b c (c *ℤ b) l S.p S.t S.q T.positive S.positive S.sized den S.leg,
+          leaves,
+          jump_over a wf b c (c *ℤ b) e S.q S.z (scaled b S.q) T.positive S.positive lq den refl S.jump,
+          lead_over a wf c b (c *ℤ b) (transition_at a e).target T.start (scaled b S.z) T.moves T.last S.positive T.positive T.sized refl joined.0 T.leads,
+        );
         along = ap (λ es. e ∷ es) (transitions_scaled c T.moves ∙ T.along);
-        ends = SamePoint-trans (over d ns) (over b (T.last.at_end ++ (T.elapsed +ℤ total T.moves T.last) ∷ [])) _ T.positive T.ends to_den;
+        ends = SamePoint-trans y (over b (T.last.at_end ++ (T.elapsed +ℤ later) ∷ [])) _ T.positive T.ends
+            (ends_over c b (c *ℤ b) T.last.at_end (T.elapsed +ℤ later) (((S.elapsed *ℤ b) -ℤ (S.t *ℤ b)) +ℤ ((S.t *ℤ b) +ℤ total (scaled_moves c T.moves) (scaled_leg c T.last))) refl time);
       }
+
+  pub path_back : (l : ℕ) (path : List ℕ) (state : List Row) (d : ℤ) (ns : List ℤ) → l < length a.locations → Fits a l path → AllWide (width a + 1) state → pos 0 <ℤ d → length ns ≡ width a + 1 →
+      AllHold (path_rows a l path state) (over d ns) → PathBack l path state (over d ns)
+  path_back l [] state d ns hl fits wide hd ln h = path_none l state (over d ns) ((leg_ends a l state d ns (location_is a wf l hl) wide hd ln).0 h)
+  path_back l (e ∷ path) state d ns hl fits wide hd ln h =
+      onwards
+      (path_back (transition_at a e).target path next d ns (transition_is a wf e fits.0).target fits.2
+      (jump_wide_of a wf e (rows_after (leg_stage a l state)) fits.0 (leg_after_wide a l state (location_is a wf l hl) wide)) hd ln h)
+    where
+      next : List Row
+      next = rows_after (jump_stage a e (rows_after (leg_stage a l state)))
+
+      onwards : PathBack (transition_at a e).target path next (over d ns) → PathBack l (e ∷ path) state (over d ns)
+      onwards T =
+          path_more l e path state next (over d ns) fits.1 T
+          (step_back l e state T.den (T.start ++ T.elapsed ∷ []) hl fits.0 wide T.positive (omega (arith, length-append T.start (T.elapsed ∷ []), T.sized)) T.starts)
 
   -- ---- a whole gap
 
@@ -274,20 +184,18 @@ module _ (a : Automaton) (wf : IsWellFormed a) where
     pub passes : IsPassing a cells (end_point gap)
     pub ends : SamePoint (end_point gap) q
 
-  pub gap_back : (l : ℕ) (path : List ℕ) (duration : Fraction) (cells : List (Option Fraction)) (rows : List Row) (d : ℤ) (ns : List ℤ) → IsGapCase a l cells rows → IsFraction duration →
-      Fits a l path → pos 0 <ℤ d → length ns ≡ width a → AllHold (gap_rows a l path duration cells rows) (over d ns) → GapBack l path duration cells rows (over d ns)
-  gap_back l path duration cells rows d ns is hf fits hd ln h =
+  -- a path back to the start of the gap, from a point that passes the sample
+  gap_of : (l : ℕ) (path : List ℕ) (duration : Fraction) (cells : List (Option Fraction)) (rows state : List Row) (y : Point) (c : ℤ) (v : List ℤ) (el : ℤ) → IsGapCase a l cells rows →
+      IsFraction duration → EndsSample a duration cells state y c v el → PathBack l path (gap_start (width a) rows) (over c (v ++ el ∷ [])) → pos 0 <ℤ y.den →
+      GapBack l path duration cells rows y
+  gap_of l path duration cells rows state y c v el is hf S T hd =
       let m : ℕ = width a in
-      let start : List Row = gap_start m rows in
-      let wide = start_wide m rows is.wide in
-      let state : List Row = path_rows a l path start in
-      let (c, v, el, S) = (sample_ends a duration cells state d ns is.tolerances is.values is.sized (path_wide a wf l path start is.loc fits wide) hd ln).0 h in
-      let T = path_back l path start c (v ++ el ∷ []) is.loc fits wide S.positive (omega (arith, length-append v (el ∷ []), S.sized)) S.starts in
       let b : ℤ = T.den in
       let begins = (start_holds m b T.start T.elapsed rows T.sized is.wide).0 T.starts in
-      let time : ℤ = T.elapsed +ℤ total T.moves T.last in
+      let later : ℤ = total T.moves T.last in
+      let time : ℤ = T.elapsed +ℤ later in
       let joined = last_same c b el time v T.last.at_end (S.sized ∙ sym T.sized_end) T.ends in
-      let zero_start : time ≡ total T.moves T.last = (let z = begins.1 in omega (arith, ints, z)) in
+      let zero_start : time ≡ later = (let z = begins.1 in omega (arith, ints, z)) in
       let lasts : SameFraction (record { num = time; den = b }) duration = same-trans (record { num = time; den = b }) (record { num = el; den = c }) duration T.positive S.positive hf (sym joined.1) S.lasts in
       let cells_are : AreCells a cells = record { tolerances = is.tolerances; values = is.values; sized = is.sized } in
       let passes : IsPassing a cells (over b (take m T.last.at_end)) =
@@ -301,5 +209,24 @@ module _ (a : Automaton) (wf : IsWellFormed a) where
         along = T.along;
         gap_run = record { positive = T.positive; leads = T.leads; lasts = subst (λ z. SameFraction (record { num = z; den = b }) duration) zero_start lasts };
         passes = subst (λ xs. IsPassing a cells (over b xs)) (take_whole m T.last.at_end T.sized_end) passes;
-        ends = sym (SamePoint-trans (over d ns) (over c v) (over b T.last.at_end) S.positive S.ends joined.0);
+        ends = sym (SamePoint-trans y (over c v) (over b T.last.at_end) S.positive S.ends joined.0);
       }
+
+  pub gap_back : (l : ℕ) (path : List ℕ) (duration : Fraction) (cells : List (Option Fraction)) (rows : List Row) (d : ℤ) (ns : List ℤ) → IsGapCase a l cells rows → IsFraction duration →
+      Fits a l path → pos 0 <ℤ d → length ns ≡ width a → AllHold (gap_rows a l path duration cells rows) (over d ns) → GapBack l path duration cells rows (over d ns)
+  gap_back l path duration cells rows d ns is hf fits hd ln h =
+      onwards ((sample_ends a duration cells state d ns is.tolerances is.values is.sized (path_wide a wf l path start is.loc fits wide) hd ln).0 h)
+    where
+      start : List Row
+      start = gap_start (width a) rows
+
+      state : List Row
+      state = path_rows a l path start
+
+      wide : AllWide (width a + 1) start
+      wide = start_wide (width a) rows is.wide
+
+      onwards : SomeSampleEnds a duration cells state (over d ns) → GapBack l path duration cells rows (over d ns)
+      onwards (c, v, el, S) =
+          gap_of l path duration cells rows state (over d ns) c v el is hf S
+          (path_back l path start c (v ++ el ∷ []) is.loc fits wide S.positive (omega (arith, length-append v (el ∷ []), S.sized)) S.starts) hd

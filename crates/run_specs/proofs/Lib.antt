@@ -24,6 +24,7 @@ pub mod StageWidths
 pub mod GapEnds
 pub mod GapPasses
 pub mod OverflowLemmas
+pub mod ScaledRuns
 pub mod GapBack
 pub mod GapExact
 pub mod RowDecisions

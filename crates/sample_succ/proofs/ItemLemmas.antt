@@ -1,27 +1,23 @@
 -- One item more, or one that is covered: what was found stays exact.
-use Rattle.std.proofs.Common.{◌≡◌, ◌↔◌, ◌⊎◌, inl, inr, ℕ, zero, suc, ◌+◌, ◌<◌, ◌≤◌, Bool, List, [], ◌∷◌, ◌++◌, length, length-append, append_assoc, map, refl, sym, ◌∙◌, ap, subst, arith, pos, ◌<ℤ◌}
+use Rattle.std.proofs.Common.{◌≡◌, ◌↔◌, ◌⊎◌, inl, inr, ℕ, zero, suc, ◌<◌, List, [], ◌∷◌, ◌++◌, length, refl, sym, ◌∙◌, ap, subst, arith, pos, ◌<ℤ◌}
 use Rattle.std.specs.Prelude.{All, Any, slice_index_or}
 use Rattle.std.proofs.lemmas.List.{append-nil}
-use Rattle.poly_specs.specs.Bits.{SomePasses}
-use Rattle.poly_specs.specs.Bounds.{IsPoint, Includes, inclusion_numbers}
 use Rattle.poly_specs.specs.Lists.{In}
 use Rattle.poly_specs.specs.Rows.{Point, Row, AllHold, HasPoint}
 use Rattle.poly_specs.proofs.EliminationLemmas.{in_map, out_map}
 use Rattle.poly_specs.proofs.InclusionLemmas.{in_left, in_right, in_either}
-use Rattle.fm_eliminate.proofs.LeavingLemmas.{all_from_in}
 use Rattle.fm_eliminate.proofs.PivotLemmas.{each_in}
-use Rattle.run_specs.specs.Automaton.{width, transition_at}
-use Rattle.run_specs.specs.Keys.{State, Key, IsKey, parent_at}
-use Rattle.run_specs.specs.Outcomes.{Item, MayTake, IsEnd, IsIncluded, loc_after, mark_after, IsBefore, IsItem, ItemsRise, AreRising, IsEarlierLike, IsCovered, IsAccounted, IsNeeded}
-use Rattle.run_specs.specs.Passes.{Fits}
+use Rattle.run_specs.specs.Automaton.{width}
+use Rattle.run_specs.specs.Keys.{Key, IsKey, parent_at}
+use Rattle.run_specs.specs.Outcomes.{Item, MayTake, IsEnd, loc_after, mark_after, IsBefore, IsItem, ItemsRise, AreRising, IsAccounted, IsNeeded}
 use Rattle.run_specs.specs.Stages.{rows_after, gap_start, sample_stage}
 use Rattle.run_specs.specs.WellFormed.{IsWellFormed}
 use Rattle.sample_succ.specs.declared.finding.Found.{Found}
 use Rattle.sample_succ.specs.Covers.{item_of, items_of, AreWide, IsNotShown, DoesCover, DoesNotCover}
 use Rattle.sample_succ.specs.Plain.{IsPlain}
-use Rattle.sample_succ.specs.Walks.{plain_after, AreFound, AllBefore, BeginsBelow, IsUnder, WalkedTo}
+use Rattle.sample_succ.specs.Walks.{plain_after, AreFound, AllBefore, BeginsBelow, WalkedTo}
 use Rattle.sample_succ.proofs.NodeLemmas.{rows_are_ends}
-use Rattle.sample_succ.proofs.PathLemmas.{not_both, before_trans, before_longer, before_next, fits_rest, path_rows_end}
+use Rattle.sample_succ.proofs.PathLemmas.{not_both, path_rows_end}
 
 -- ---- lists
 

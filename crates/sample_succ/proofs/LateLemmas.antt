@@ -1,5 +1,5 @@
 -- Where the sample is passed after some parts of a gap, no more time had elapsed before them than the gap lasts.
-use Rattle.std.proofs.Common.{◌≡◌, ◌↔◌, ℕ, ◌+◌, ◌<◌, List, [], ◌∷◌, ◌++◌, length, length-append, Option, Some, None, sym, ◌∙◌, ap, subst, arith, ℤ, pos, ◌+ℤ◌, ◌*ℤ◌, ◌≤ℤ◌, ◌<ℤ◌, neg_ℤ}
+use Rattle.std.proofs.Common.{◌≡◌, ℕ, ◌+◌, ◌<◌, List, [], ◌∷◌, ◌++◌, length, length-append, Option, Some, None, sym, ◌∙◌, ap, subst, arith, ℤ, pos, ◌+ℤ◌, ◌*ℤ◌, ◌≤ℤ◌, ◌<ℤ◌, neg_ℤ}
 use Rattle.std.proofs.lemmas.Int.{ints}
 use Rattle.std.proofs.lemmas.List.{length-set}
 use Rattle.poly_specs.proofs.EliminationLemmas.{length-divided, AllHold-from_in}
@@ -10,10 +10,11 @@ use Rattle.run_specs.proofs.SampleLemmas.{at_most_holds, number_last}
 use Rattle.run_specs.proofs.StageLemmas.{holds_both, holds_first, length-zeros}
 use Rattle.run_specs.proofs.StageWidths.{path_wide}
 use Rattle.poly_specs.specs.Fractions.{Fraction, IsFraction, SameFraction, AtMost}
-use Rattle.poly_specs.specs.Lists.{number_at}
+use Rattle.poly_specs.specs.Lists.{In, number_at}
 use Rattle.poly_specs.specs.Rows.{Point, Row, over, Holds, AllHold, AllWide, HasPoint}
 use Rattle.poly_specs.specs.Systems.{System}
 use Rattle.run_specs.specs.Automaton.{Automaton, width, transition_at, tolerance_at}
+use Rattle.run_specs.specs.Ends.{EndsSample, SomeSampleEnds}
 use Rattle.run_specs.specs.Keys.{Key}
 use Rattle.run_specs.specs.Logs.{cell_at}
 use Rattle.run_specs.specs.Passes.{Fits}
@@ -21,7 +22,8 @@ use Rattle.run_specs.specs.Runs.{Leg, Move, LeadOn, total}
 use Rattle.run_specs.specs.Stages.{Stage, zeros, at_most, rows_after, row_of, sample_stage, path_rows}
 use Rattle.run_specs.specs.WellFormed.{IsWellFormed}
 use Rattle.sample_succ.specs.Plain.{IsPlain, IsLeft, IsLeftInTime, in_time}
-use Rattle.run_specs.proofs.GapBack.{last_same, path_back}
+use Rattle.run_specs.proofs.ScaledRuns.{last_same}
+use Rattle.run_specs.proofs.GapBack.{PathBack, path_back}
 
 -- ---- the row that no more time has elapsed than this
 
@@ -42,6 +44,9 @@ no_later e t b v hv ht same =
     let none : v.den *ℤ pos 0 ≡ pos 0 = omega (arith, products) in
     omega (arith, ints, sum, more, none, same)
 
+no_row : (at : Point) (r : Row) → In r [] → Holds r at
+no_row at r i = absurd i
+
 module _ (a : Automaton) (wf : IsWellFormed a) where
   total_is : (d : ℤ) (l : ℕ) (p : List ℤ) (ms : List Move) (f : Leg) → LeadOn a d l p ms f → pos 0 ≤ℤ total ms f
   total_is d l p [] f h = h.lasts
@@ -50,15 +55,11 @@ module _ (a : Automaton) (wf : IsWellFormed a) where
       let first = h.0.lasts in
       omega (arith, ints, rest, first)
 
-  -- the parts of a gap after a state: where the sample is passed after them, the state has a point in time
-  pub starts_in_time : (l : ℕ) (path : List ℕ) (gap : Fraction) (cells : List (Option Fraction)) (state : List Row) (d : ℤ) (ns : List ℤ) →
-      ((j : ℕ) → IsFraction (tolerance_at a j)) → ((j : ℕ) (x : Fraction) → cell_at j cells ≡ Some x → IsFraction x) → length cells ≡ width a → IsFraction gap →
-      l < length a.locations → Fits a l path → AllWide (width a + 1) state → pos 0 <ℤ d → length ns ≡ width a →
-      AllHold (rows_after (sample_stage a gap cells (path_rows a l path state))) (over d ns) → HasPoint (width a + 1) (state ++ at_most (width a + 1) (width a) gap ∷ [])
-  starts_in_time l path gap cells state d ns ht hc lc hg hl fits wide hd ln h =
+  -- the same parts, from a point that passes the sample
+  in_time_of : (l : ℕ) (path : List ℕ) (gap : Fraction) (cells : List (Option Fraction)) (state rows : List Row) (y : Point) (c : ℤ) (v : List ℤ) (el : ℤ) → IsFraction gap →
+      EndsSample a gap cells rows y c v el → PathBack a wf l path state (over c (v ++ el ∷ [])) → HasPoint (width a + 1) (state ++ at_most (width a + 1) (width a) gap ∷ [])
+  in_time_of l path gap cells state rows y c v el hg S T =
       let m : ℕ = width a in
-      let (c, v, el, S) = (sample_ends a gap cells (path_rows a l path state) d ns ht hc lc (path_wide a wf l path state hl fits wide) hd ln).0 h in
-      let T = path_back a wf l path state c (v ++ el ∷ []) hl fits wide S.positive (omega (arith, length-append v (el ∷ []), S.sized)) S.starts in
       let b : ℤ = T.den in
       let t : ℤ = total T.moves T.last in
       let time : ℤ = T.elapsed +ℤ t in
@@ -67,8 +68,24 @@ module _ (a : Automaton) (wf : IsWellFormed a) where
       let most = no_later T.elapsed t b gap hg (total_is b l T.start T.moves T.last T.leads) lasts in
       let at : Point = over b (T.start ++ T.elapsed ∷ []) in
       let row : Holds (at_most (m + 1) m gap) at = time_row_holds m gap b T.start T.elapsed T.sized most in
-      let rows = (holds_both state (at_most (m + 1) m gap ∷ []) at).1 (T.starts, (holds_first (at_most (m + 1) m gap) [] at).1 (row, AllHold-from_in [] at (λ r i. absurd i))) in
-      (at, T.positive, omega (arith, length-append T.start (T.elapsed ∷ []), T.sized), rows)
+      let held = (holds_both state (at_most (m + 1) m gap ∷ []) at).1 (T.starts, (holds_first (at_most (m + 1) m gap) [] at).1 (row, AllHold-from_in [] at (no_row at))) in
+      (at, T.positive, omega (arith, length-append T.start (T.elapsed ∷ []), T.sized), held)
+
+  -- the parts of a gap after a state: where the sample is passed after them, the state has a point in time
+  pub starts_in_time : (l : ℕ) (path : List ℕ) (gap : Fraction) (cells : List (Option Fraction)) (state : List Row) (d : ℤ) (ns : List ℤ) →
+      ((j : ℕ) → IsFraction (tolerance_at a j)) → ((j : ℕ) (x : Fraction) → cell_at j cells ≡ Some x → IsFraction x) → length cells ≡ width a → IsFraction gap →
+      l < length a.locations → Fits a l path → AllWide (width a + 1) state → pos 0 <ℤ d → length ns ≡ width a →
+      AllHold (rows_after (sample_stage a gap cells (path_rows a l path state))) (over d ns) → HasPoint (width a + 1) (state ++ at_most (width a + 1) (width a) gap ∷ [])
+  starts_in_time l path gap cells state d ns ht hc lc hg hl fits wide hd ln h =
+      onwards ((sample_ends a gap cells rows d ns ht hc lc (path_wide a wf l path state hl fits wide) hd ln).0 h)
+    where
+      rows : List Row
+      rows = path_rows a l path state
+
+      onwards : SomeSampleEnds a gap cells rows (over d ns) → HasPoint (width a + 1) (state ++ at_most (width a + 1) (width a) gap ∷ [])
+      onwards (c, v, el, S) =
+          in_time_of l path gap cells state rows (over d ns) c v el hg S
+          (path_back a wf l path state c (v ++ el ∷ []) hl fits wide S.positive (omega (arith, length-append v (el ∷ []), S.sized)) S.starts)
 
 -- ---- what is left in time
 

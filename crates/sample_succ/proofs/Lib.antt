@@ -2,6 +2,7 @@ pub mod StageFacts
 pub mod FreeColumns
 pub mod SampleRows
 pub mod PlainLemmas
+pub mod PrunedLemmas
 pub mod StartLemmas
 pub mod PathLemmas
 pub mod LateLemmas
@@ -11,4 +12,6 @@ pub mod WalkLemmas
 pub mod StepLemmas
 pub mod VisitLemmas
 pub mod GapStartLemmas
+pub mod ParentLemmas
 pub mod PartLemmas
+pub mod AnswerLemmas

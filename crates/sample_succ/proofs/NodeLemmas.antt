@@ -1,30 +1,25 @@
 -- What holds at a node of the walk: the code's rows say what the plain ones do, and what passes there passes for the key.
-use Rattle.std.proofs.Common.{◌≡◌, ◌↔◌, inl, inr, ℕ, ◌+◌, ◌<◌, ◌≤◌, List, [], ◌∷◌, ◌++◌, length, append_assoc, length-append, refl, sym, ◌∙◌, ap, subst, arith, ℤ, pos, ◌<ℤ◌}
+use Rattle.std.proofs.Common.{◌≡◌, ◌↔◌, inl, inr, ℕ, ◌+◌, ◌<◌, List, [], ◌∷◌, ◌++◌, length, append_assoc, length-append, sym, ◌∙◌, ap, subst, arith, pos, ◌<ℤ◌}
 use Rattle.std.proofs.lemmas.List.{append-nil}
 use Rattle.poly_specs.specs.Bits.{SomePasses}
-use Rattle.poly_specs.specs.Bounds.{emptiness_numbers}
-use Rattle.poly_specs.specs.Fractions.{Fraction}
-use Rattle.poly_specs.specs.Lists.{IsAmong}
 use Rattle.poly_specs.specs.Rows.{Point, Row, over, AllHold, AllWide, HasPoint}
 use Rattle.poly_specs.specs.Systems.{System}
-use Rattle.run_specs.proofs.EndLemmas.{leg_ends, jump_ends}
 use Rattle.run_specs.specs.PlainHistories.{AllReached}
 use Rattle.sample_succ.proofs.StageFacts.{passes_more, numbers_more, leg_within, jump_within}
 use Rattle.run_specs.proofs.PassesLemmas.{after_more, leg_more, leg_rows_more, jump_more, jump_rows_more, sample_rows_more}
 use Rattle.run_specs.proofs.SampleEnds.{sample_ends}
 use Rattle.run_specs.proofs.StageWidths.{location_is, transition_is, end_within, start_wide, leg_after_wide, jump_wide_of}
-use Rattle.run_specs.specs.Automaton.{Automaton, width, location_at, transition_at}
-use Rattle.run_specs.specs.Ends.{SomeLegEnds, SomeJumpEnds, SomeSampleEnds}
+use Rattle.run_specs.specs.Automaton.{Automaton, width, transition_at}
+use Rattle.run_specs.specs.Ends.{SomeSampleEnds}
 use Rattle.run_specs.specs.Keys.{Key, IsKey, no_state, parent_at}
 use Rattle.run_specs.specs.Outcomes.{MayTake, IsEnd, KeyPasses, loc_after}
-use Rattle.run_specs.specs.Passes.{Fits}
 use Rattle.run_specs.specs.Stages.{Stage, SomeReachedPasses, rows_after, stage_numbers, gap_start, leg_rows, leg_stage, jump_rows, jump_stage, sample_rows, sample_stage, path_rows, path_stages, gap_stages, gap_rows}
 use Rattle.run_specs.specs.WellFormed.{IsWellFormed}
 use Rattle.sample_succ.specs.Plain.{IsPlain, in_time}
-use Rattle.sample_succ.specs.Walks.{before_rows, before_stages, HavePoints, plain_before, plain_after, IsNodeAt, IsAfter}
+use Rattle.sample_succ.specs.Walks.{before_stages, HavePoints, plain_before, plain_after, IsNodeAt, IsAfter}
 use Rattle.run_specs.proofs.GapExact.{gap_case, gap_exact, all_reached}
 use Rattle.sample_succ.proofs.LateLemmas.{starts_in_time}
-use Rattle.sample_succ.proofs.PathLemmas.{end_more, fits_more, fits_rest, before_more, stages_more, path_stages_at, path_rows_at, path_rows_end, before_wide}
+use Rattle.sample_succ.proofs.PathLemmas.{fits_rest, before_more, stages_more, path_stages_at, path_rows_at, path_rows_end, before_wide}
 use Rattle.sample_succ.proofs.PlainLemmas.{plain_then}
 
 -- ---- points

@@ -1,18 +1,17 @@
 -- Paths that are extended: their stages, where they end, and their order.
-use Rattle.std.proofs.Common.{◌≡◌, ◌⊎◌, inl, inr, ℕ, zero, suc, ◌+◌, ◌<◌, ◌≤◌, Bool, true, false, ◌||◌, List, [], ◌∷◌, ◌++◌, length, append_assoc, length-append, refl, sym, ◌∙◌, ap, subst, arith}
+use Rattle.std.proofs.Common.{◌≡◌, ℕ, ◌+◌, ◌<◌, Bool, true, false, ◌||◌, List, [], ◌∷◌, ◌++◌, length, refl, sym, ◌∙◌, ap}
 use Rattle.std.specs.Ordering.{nat_cmp, ordering_then, ordering_reverse}
 use Rattle.std.specs.declared.cmp.Ordering.{Ordering}
-use Rattle.std.specs.declared.cmp.Ordering.TheVariants.{Less, Equal, Greater}
+use Rattle.std.specs.declared.cmp.Ordering.TheVariants.{Less, Equal}
 use Rattle.std.specs.Cmp.{IsTotalOrder, on_total, then_total, nat_cmp_total, nat_cmp_is}
 use Rattle.std.specs.Cmp.Lexicographic.{slice_cmp, nat_list_cmp_total}
-use Rattle.std.proofs.lemmas.List.{append-nil}
 use Rattle.run_specs.proofs.StageWidths.{location_is, transition_is, leg_after_wide, jump_wide_of}
 use Rattle.poly_specs.specs.Rows.{Row, AllWide}
 use Rattle.run_specs.specs.Automaton.{Automaton, width, location_at, transition_at}
 use Rattle.run_specs.specs.Outcomes.{IsBefore}
 use Rattle.run_specs.specs.Passes.{Fits}
 use Rattle.run_specs.specs.Runs.{end_loc, goes_unsafe}
-use Rattle.run_specs.specs.Stages.{Stage, rows_after, leg_stage, jump_stage, path_rows, path_stages}
+use Rattle.run_specs.specs.Stages.{rows_after, leg_stage, jump_stage, path_rows, path_stages}
 use Rattle.run_specs.specs.WellFormed.{IsWellFormed}
 use Rattle.sample_succ.specs.Walks.{before_rows, before_stages}
 

@@ -1,5 +1,5 @@
 -- Rows that hold where plain ones do, and are some of them, stay so under elimination and cuts.
-use Rattle.std.proofs.Common.{◌≡◌, ◌↔◌, inl, inr, ℕ, zero, suc, ◌+◌, ◌<◌, ◌≤◌, Bool, true, false, List, [], ◌∷◌, ◌++◌, length, length-append, drop, map, refl, sym, ◌∙◌, ap, subst, arith, ℤ, pos, ◌<ℤ◌}
+use Rattle.std.proofs.Common.{◌≡◌, inl, inr, ℕ, zero, suc, ◌+◌, ◌<◌, ◌≤◌, Bool, true, false, List, [], ◌∷◌, ◌++◌, length, length-append, drop, map, refl, sym, ◌∙◌, ap, subst, arith, ℤ, pos, ◌<ℤ◌}
 use Rattle.std.specs.Prelude.{All, filter, Option}
 use Rattle.std.specs.List.{AllByRecursion, flat_map}
 use Rattle.std.proofs.lemmas.List.{append-nil}
@@ -11,7 +11,7 @@ use Rattle.poly_specs.proofs.InclusionLemmas.{in_left, in_right, in_either, out_
 use Rattle.fm_eliminate.proofs.LeavingLemmas.{all_from_in}
 use Rattle.sample_succ.proofs.FreeColumns.{free_stays, each_wide}
 use Rattle.fm_eliminate.proofs.PivotLemmas.{each_in}
-use Rattle.run_specs.proofs.EndLemmas.{all_cut, wide_both}
+use Rattle.run_specs.proofs.EndLemmas.{all_cut}
 use Rattle.sample_succ.proofs.StageFacts.{passes_more}
 use Rattle.run_specs.proofs.PassesLemmas.{same_in}
 use Rattle.run_specs.proofs.SampleEnds.{sample_wide}
@@ -23,11 +23,11 @@ use Rattle.poly_specs.specs.Columns.{cut}
 use Rattle.poly_specs.specs.Elimination.{eliminated, eliminated_each, formed, formed_each, columns_down}
 use Rattle.poly_specs.specs.Fractions.{Fraction}
 use Rattle.poly_specs.specs.Lists.{In, IsAmong, number_at}
-use Rattle.poly_specs.specs.Rows.{Point, Row, over, coef_at, AllHold, AllWide, IsExtensionIn, SomeValuesHoldIn}
+use Rattle.poly_specs.specs.Rows.{Point, Row, over, coef_at, AllHold, AllWide, SomeValuesHoldIn}
 use Rattle.poly_specs.specs.Systems.{System, AreFreeOf, IsProjection}
 use Rattle.run_specs.specs.Automaton.{Automaton, width, tolerance_at}
 use Rattle.run_specs.specs.Logs.{cell_at}
-use Rattle.run_specs.specs.Stages.{Stage, zeros, rows_after, stage_numbers, at_most, at_least, seen_rows, seen_exactly, below, sample_rows, sample_stage}
+use Rattle.run_specs.specs.Stages.{Stage, zeros, rows_after, stage_numbers, at_most, at_least, seen_rows, seen_exactly, below, sample_stage}
 use Rattle.sample_succ.specs.Plain.{IsPlain}
 
 pub plain_same : (n : ℕ) (rows : List Row) → IsPlain n rows rows

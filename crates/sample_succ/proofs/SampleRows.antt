@@ -1,5 +1,5 @@
 -- The rows and the sums of a sample, variable by variable.
-use Rattle.std.proofs.Common.{◌≡◌, ℕ, zero, suc, ◌+◌, ◌<◌, ◌^◌, Bool, true, false, List, [], ◌∷◌, ◌++◌, length, append_assoc, set, refl, sym, ◌∙◌, ap, subst, arith, ℤ, pos, unsigned_abs}
+use Rattle.std.proofs.Common.{◌≡◌, ℕ, zero, suc, ◌+◌, ◌<◌, ◌^◌, Bool, true, false, List, [], ◌∷◌, ◌++◌, append_assoc, set, refl, sym, ◌∙◌, ap, arith, ℤ}
 use Rattle.std.specs.Prelude.{All, filter}
 use Rattle.std.specs.List.{AllByRecursion, flat_map}
 use Rattle.std.proofs.lemmas.Grind.{flat_map-append}
@@ -14,7 +14,6 @@ use Rattle.stage_rows.proofs.RespellingLemmas.{of_zeros}
 use Rattle.poly_specs.specs.Arithmetic.{lowest, least_sum}
 use Rattle.poly_specs.specs.Bits.{FitsBits, SomePasses}
 use Rattle.poly_specs.specs.Fractions.{Fraction, IsFraction, sum_of}
-use Rattle.poly_specs.specs.Rows.{Row}
 use Rattle.run_specs.specs.Stages.{zeros, at_most, at_least, below}
 
 -- ---- a row of one column

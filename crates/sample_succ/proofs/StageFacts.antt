@@ -1,5 +1,5 @@
 -- What holds of the stages of a gap: their numbers, the points that they leave, and the rows of a sample.
-use Rattle.std.proofs.Common.{◌≡◌, inl, inr, ℕ, zero, suc, ◌+◌, ◌<◌, take_all, List, [], ◌∷◌, ◌++◌, length, length-append, set, map, take, Option, Some, None, refl, sym, ◌∙◌, ap, ap₂, subst, arith, ℤ, pos, ◌-ℤ◌, ◌<ℤ◌}
+use Rattle.std.proofs.Common.{◌≡◌, inl, inr, ℕ, zero, suc, ◌+◌, ◌<◌, take_all, List, [], ◌∷◌, ◌++◌, length, length-append, map, take, Option, Some, None, refl, sym, ◌∙◌, ap₂, subst, arith, ℤ, pos, ◌-ℤ◌}
 use Rattle.std.specs.Prelude.{slice_index_or}
 use Rattle.std.proofs.lemmas.List.{length-set, get_or-set_other}
 use Rattle.std.proofs.lemmas.List.Elements.{All-head, All-tail}

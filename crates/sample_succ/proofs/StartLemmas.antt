@@ -1,6 +1,8 @@
 -- The opening, location by location.
-use Rattle.std.proofs.Common.{◌≡◌, ◌↔◌, inl, inr, ℕ, suc, ◌+◌, ◌<◌, ◌≤◌, true, false, List, [], ◌∷◌, ◌++◌, length, Option, Some, None, refl, sym, ◌∙◌, ap, subst, arith, pos}
-use Rattle.std.specs.Prelude.{IsSomeAnd, IfSome, MatchBool, Bool, option_map}
+use Rattle.std.proofs.Common.{◌≡◌, inl, inr, ℕ, suc, ◌+◌, ◌<◌, ◌≤◌, false, List, [], ◌∷◌, ◌++◌, length, Option, Some, None, refl, sym, ◌∙◌, ap, subst, arith}
+use Rattle.std.specs.Prelude.{IsSomeAnd, IfSome}
+use Rattle.std.proofs.lemmas.List.{map-append}
+use Rattle.std.proofs.lemmas.List.Elements.{All-push}
 use Rattle.std.proofs.lemmas.Bool.{cases_lt}
 use Rattle.std.proofs.lemmas.List.{get_or_past}
 use Rattle.poly_specs.proofs.InclusionLemmas.{in_left, in_right, in_either}
@@ -19,7 +21,8 @@ use Rattle.run_specs.specs.Openings.{IsOpeningState, AreOpening, LocsRise, openi
 use Rattle.run_specs.specs.Passes.{OpeningPasses}
 use Rattle.run_specs.specs.Stages.{opening_stage, stage_numbers}
 use Rattle.run_specs.specs.WellFormed.{IsWellFormed}
-use Rattle.sample_succ.specs.Starts.{IsStartState, StartsBefore}
+use Rattle.gap_keys.specs.Views.{StateView, states_of}
+use Rattle.sample_succ.specs.Starts.{IsStartState, StartsBefore, IsStart, AreStartsBefore}
 use Rattle.sample_succ.proofs.PlainLemmas.{test_pass}
 
 -- ---- one location
@@ -95,6 +98,16 @@ starts_more a l states s is some = record {
     | inr ge ↦ (let same : k ≡ l = omega (arith, h) in (s, in_right s states (s ∷ []) (inl refl), some.0 ∙ sym same))
   ];
   rise = rise_more 0 l states s is.rise (λ x i. (is.each x i).0) (omega arith) some.0;
+}
+
+-- the same of states as their code shows them
+pub same_starts : (a : Automaton) (l : ℕ) (views : List StateView) → AreStartsBefore a l views → IsStart a l None → AreStartsBefore a (l + 1) views
+same_starts a l views is none = record { starts = starts_same a l (states_of views) is.starts none; wide = is.wide }
+
+pub more_starts : (a : Automaton) (l : ℕ) (views : List StateView) (v : StateView) → AreStartsBefore a l views → IsStart a l (Some v) → AreStartsBefore a (l + 1) (views ++ v ∷ [])
+more_starts a l views v is some = record {
+  starts = subst (StartsBefore a (l + 1)) (sym (map-append (λ (x : StateView). x.state) views (v ∷ []))) (starts_more a l (states_of views) v.state is.starts some.0);
+  wide = All-push (λ (x : StateView). x.width ≡ width a) views v is.wide some.1;
 }
 
 -- after the last location

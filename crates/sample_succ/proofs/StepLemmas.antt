@@ -1,5 +1,5 @@
 -- What is left after a leg, a jump and the sample.
-use Rattle.std.proofs.Common.{◌≡◌, ◌↔◌, ℕ, ◌+◌, ◌<◌, List, length, subst, sym, ap, ℤ, pos, ◌<ℤ◌}
+use Rattle.std.proofs.Common.{◌≡◌, ◌↔◌, ℕ, ◌+◌, ◌<◌, List, length, subst, sym, ℤ, pos, ◌<ℤ◌}
 use Rattle.poly_specs.specs.Bits.{SomePasses}
 use Rattle.poly_specs.specs.Bounds.{emptiness_numbers}
 use Rattle.poly_specs.specs.Lists.{IsAmong}
@@ -7,7 +7,7 @@ use Rattle.poly_specs.specs.Rows.{Row, over, AllHold, AllWide, HasPoint}
 use Rattle.poly_specs.specs.Systems.{System}
 use Rattle.run_specs.proofs.EndLemmas.{leg_ends, jump_ends}
 use Rattle.run_specs.proofs.StageWidths.{location_is, transition_is}
-use Rattle.run_specs.specs.Automaton.{Automaton, width, location_at, transition_at}
+use Rattle.run_specs.specs.Automaton.{Automaton, width, transition_at}
 use Rattle.run_specs.specs.Ends.{SomeLegEnds, SomeJumpEnds}
 use Rattle.run_specs.specs.Stages.{Stage, rows_after, stage_numbers, leg_stage, jump_stage}
 use Rattle.run_specs.specs.WellFormed.{IsWellFormed}

@@ -1,14 +1,13 @@
 -- At a node: the leg, the sample, and the jumps from there.
-use Rattle.std.proofs.Common.{◌≡◌, ◌↔◌, inl, inr, ℕ, ◌+◌, ◌<◌, ◌≤◌, Bool, ◌||◌, List, [], ◌∷◌, ◌++◌, length, length-append, refl, sym, ◌∙◌, ap, subst, arith}
-use Rattle.std.specs.Prelude.{All, Any, Option, Some, None}
+use Rattle.std.proofs.Common.{◌≡◌, inl, inr, ℕ, ◌+◌, ◌<◌, ◌||◌, List, [], ◌∷◌, ◌++◌, length, length-append, sym, ◌∙◌, ap, subst, arith}
+use Rattle.std.specs.Prelude.{All, Any, Some, None}
 use Rattle.poly_specs.specs.Bits.{SomePasses}
-use Rattle.poly_specs.specs.Rows.{Row, AllWide, HasPoint}
+use Rattle.poly_specs.specs.Rows.{Row, AllWide}
 use Rattle.poly_specs.specs.Systems.{System}
-use Rattle.run_specs.specs.Automaton.{Automaton, width, location_at, transition_at}
+use Rattle.run_specs.specs.Automaton.{width, location_at, transition_at}
 use Rattle.run_specs.specs.Keys.{Key, IsKey, parent_at}
-use Rattle.run_specs.specs.Outcomes.{Item, MayTake, KeyPasses, loc_after, mark_after}
-use Rattle.run_specs.specs.Runs.{end_loc}
-use Rattle.run_specs.specs.Stages.{Stage, rows_after, stage_numbers, at_most, leg_stage, jump_stage, sample_stage}
+use Rattle.run_specs.specs.Outcomes.{MayTake, KeyPasses, loc_after, mark_after}
+use Rattle.run_specs.specs.Stages.{rows_after, stage_numbers, at_most, leg_stage, jump_stage, sample_stage}
 use Rattle.run_specs.specs.WellFormed.{IsWellFormed}
 use Rattle.sample_succ.specs.declared.finding.Found.{Found}
 use Rattle.sample_succ.specs.declared.finding.Node.{Node}
@@ -17,7 +16,7 @@ use Rattle.sample_succ.specs.Plain.{IsPlain, IsLeft, IsLeftInTime}
 use Rattle.sample_succ.specs.Walks.{plain_before, plain_after, IsNodeAt, IsNode, IsAfter, IsJumped, AreFound, AllBefore, WalkedTo, IsPutNew}
 use Rattle.sample_succ.proofs.ItemLemmas.{none_walked, empty_walked, covered_walked, item_walked}
 use Rattle.sample_succ.proofs.LateLemmas.{point_back_with}
-use Rattle.sample_succ.proofs.NodeLemmas.{point_same, point_back, loc_within, plain_wide, after_wide, leg_plain, jump_plain, sample_plain, leg_fault, jump_fault, sample_fault, no_leg, no_jump, next_node}
+use Rattle.sample_succ.proofs.NodeLemmas.{point_back, loc_within, plain_wide, after_wide, leg_plain, jump_plain, sample_plain, leg_fault, jump_fault, sample_fault, no_leg, no_jump, next_node}
 use Rattle.sample_succ.proofs.PathLemmas.{end_more, fits_more, fits_rest, unsafe_more}
 use Rattle.sample_succ.proofs.PlainLemmas.{plain_same, plain_then}
 

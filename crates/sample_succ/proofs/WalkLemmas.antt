@@ -1,6 +1,6 @@
 -- The walk over the paths from a parent, and from all parents.
-use Rattle.std.proofs.Common.{◌≡◌, ◌⊎◌, inl, inr, ℕ, zero, suc, ◌+◌, ◌-◌, ◌<◌, ◌≤◌, List, [], ◌∷◌, ◌++◌, length, length-append, append_assoc, refl, sym, ◌∙◌, ap, subst, arith, pos}
-use Rattle.std.specs.Prelude.{All, Some}
+use Rattle.std.proofs.Common.{◌≡◌, ◌⊎◌, inl, inr, ℕ, ◌+◌, ◌-◌, ◌<◌, ◌≤◌, List, [], ◌∷◌, ◌++◌, length, length-append, append_assoc, sym, ◌∙◌, ap, subst, arith}
+use Rattle.std.specs.Prelude.{Some}
 use Rattle.std.proofs.lemmas.Bool.{cases_lt}
 use Rattle.std.proofs.lemmas.List.{append-nil}
 use Rattle.std.proofs.lemmas.List.Elements.{All-nil}
@@ -8,17 +8,15 @@ use Rattle.poly_specs.specs.Lists.{In}
 use Rattle.poly_specs.specs.Rows.{Point}
 use Rattle.poly_specs.specs.Systems.{System}
 use Rattle.run_specs.proofs.PassesLemmas.{same_in}
-use Rattle.run_specs.specs.Automaton.{width, transition_at}
-use Rattle.run_specs.specs.Keys.{Key, IsKey, parent_at}
-use Rattle.run_specs.specs.Outcomes.{Item, MayTake, IsEnd, loc_after, IsBefore, AreExact, IsAccounted, IsCovered}
-use Rattle.run_specs.specs.Passes.{Fits}
+use Rattle.run_specs.specs.Automaton.{width}
+use Rattle.run_specs.specs.Keys.{Key, parent_at}
+use Rattle.run_specs.specs.Outcomes.{Item, MayTake, IsEnd, IsBefore, AreExact, IsAccounted}
 use Rattle.run_specs.specs.Stages.{gap_start}
-use Rattle.run_specs.specs.WellFormed.{IsWellFormed}
 use Rattle.sample_succ.specs.declared.finding.Found.{Found}
 use Rattle.sample_succ.specs.declared.finding.Node.{Node}
-use Rattle.sample_succ.specs.Covers.{items_of, AreWide}
+use Rattle.sample_succ.specs.Covers.{items_of}
 use Rattle.sample_succ.specs.Plain.{IsPlain}
-use Rattle.sample_succ.specs.Walks.{AllBefore, AreFound, BeginsBelow, IsUnder, WalkedTo, WalkedFrom, IsNodeAt, IsNode, IsJumped}
+use Rattle.sample_succ.specs.Walks.{AllBefore, BeginsBelow, IsUnder, WalkedTo, WalkedFrom, IsNodeAt, IsJumped}
 use Rattle.sample_succ.proofs.ItemLemmas.{accounted_more}
 use Rattle.sample_succ.proofs.PathLemmas.{before_trans, before_longer, before_next, before_parent, fits_rest}
 

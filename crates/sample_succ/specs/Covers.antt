@@ -4,6 +4,7 @@ use Rattle.poly_specs.specs.Bits.{SomePasses}
 use Rattle.poly_specs.specs.Bounds.{IsPoint, Includes, inclusion_numbers}
 use Rattle.poly_specs.specs.Rows.{Point, Row, AllHold}
 use Rattle.run_specs.specs.Outcomes.{Item}
+use Rattle.gap_keys.specs.Views.{ItemView}
 use Rattle.sample_succ.specs.declared.finding.Found.{Found}
 
 -- the item that was found
@@ -12,6 +13,13 @@ item_of f = record { parent = f.parent; path = f.path.items; state = record { lo
 
 abbrev pub items_of : List Found → List Item
 items_of fs = map item_of fs
+
+-- and as its code shows it
+abbrev pub view_of : Found → ItemView
+view_of f = record { item = item_of f; width = f.rows.width }
+
+abbrev pub views_of : List Found → List ItemView
+views_of fs = map view_of fs
 
 -- their rows have m columns
 abbrev pub AreWide : ℕ → List Found → Type 0

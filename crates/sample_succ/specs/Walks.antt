@@ -1,5 +1,5 @@
 -- The walk over the paths from a parent: what holds on the way, and what was found.
-use Rattle.std.specs.Prelude.{◌≡◌, ◌⊎◌, ℕ, ◌+◌, ◌<◌, Bool, List, [], ◌∷◌, ◌++◌, length, Option, Some, None, All, Any, ⊤}
+use Rattle.std.specs.Prelude.{◌≡◌, ◌⊎◌, ℕ, ◌+◌, ◌<◌, List, [], ◌∷◌, ◌++◌, length, Option, Some, None, All, Any, ⊤}
 use Rattle.poly_specs.specs.Lists.{In}
 use Rattle.poly_specs.specs.Rows.{Point, Row, HasPoint}
 use Rattle.poly_specs.specs.Systems.{System}

@@ -69,10 +69,11 @@ fn start_rows(alloc: Global, rows: &[Row], m: usize) -> Result<Vec<Row>, AllocEr
     Ok(all)
 }
 
-/// The state before the gap of this number.
+/// The state before the gap of this number. Its system is over the automaton's variables.
 pub fn parent_of(key: &Key, parent: usize) -> &State
     requires known { parent < length key.now.belief }
-    ensures value { result.now ≡ parent_at key.now parent }
+    ensures value { result.now.state ≡ parent_at key.now parent }
+    ensures wide { result.now.width ≡ width key.now.automaton }
     ensures kept { IsState key.now.automaton (parent_at key.now parent) }
 {
     &key.belief().states()[parent]
@@ -86,7 +87,7 @@ pub fn start_system(alloc: Global, key: &Key, parent: usize) -> Result<System, A
     let a = automaton_of(key);
     let m = a.vars().len();
     let state = parent_of(key, parent);
-    let before = state.rows();
+    let before = state.system();
     let old = before.rows();
     let rows = start_rows(alloc, old, m)?;
     Ok(of_rows(m + 1, rows))

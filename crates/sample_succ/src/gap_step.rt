@@ -1,9 +1,10 @@
 //! The states after a gap, by its key.
 
 ghost use Rattle.std.specs.Prelude.{◌≡◌, ◌+◌, ◌<◌, Err, IfOk, OnOk, length};
-ghost use Rattle.gap_keys.specs.Answering.{outcome_of};
-ghost use Rattle.run_specs.specs.Outcomes.{AreExact, KeyPasses, IsExact};
-ghost use Rattle.sample_succ.specs.Covers.{item_of, items_of};
+ghost use Rattle.gap_keys.specs.Answering.{IsAnswer};
+ghost use Rattle.run_specs.specs.Automaton.{width};
+ghost use Rattle.run_specs.specs.Outcomes.{AreExact, KeyPasses};
+ghost use Rattle.sample_succ.specs.Covers.{items_of, view_of, views_of, AreWide};
 ghost use Rattle.sample_succ.specs.Walks.{WalkedFrom};
 
 use crate::finding::Found;
@@ -34,6 +35,7 @@ fn find_from(
 /// What is found from all states before the gap.
 fn find_all(alloc: Global, key: &Key) -> Result<Vec<Found>, RowFault>
     ensures ok { IfOk result (λ v. AreExact key.now (items_of v.items)) }
+    ensures wide { IfOk result (λ v. AreWide (width key.now.automaton) v.items) }
     ensures passes { result ≡ Err RowFault.Passes → KeyPasses key.now }
 {
     let mut found = Vec::new(alloc);
@@ -45,14 +47,14 @@ fn find_all(alloc: Global, key: &Key) -> Result<Vec<Found>, RowFault>
 }
 
 fn item(found: Found) -> Item
-    ensures { result ≡ item_of found }
+    ensures { result ≡ view_of found }
 {
     let state = State::new(found.loc, found.seen_unsafe, found.rows);
     Item::new(found.parent, found.path, state)
 }
 
 fn items(alloc: Global, found: Vec<Found>) -> Result<Vec<Item>, AllocError>
-    ensures { IfOk result (λ v. v.items ≡ items_of found.items) }
+    ensures { IfOk result (λ v. v.items ≡ views_of found.items) }
 {
     found.into_iter().map(item).collect(alloc)
 }
@@ -62,10 +64,10 @@ fn items(alloc: Global, found: Vec<Found>) -> Result<Vec<Item>, AllocError>
 ///
 /// The items stand in the order of their parents, and then of their paths, a path before those that
 /// extend it. An item is left out where it has no point, and where an earlier one of the same
-/// location and mark includes it. `Overflow` says that a number of the plain stages passes 128
-/// bits.
+/// location and mark includes it. The systems of their states are over the automaton's variables.
+/// `Overflow` says that a number of the plain stages passes 128 bits.
 pub fn step(alloc: Global, key: &Key) -> Result<Outcome, AllocError>
-    ensures { IfOk result (λ o. IsExact key.now (outcome_of o)) }
+    ensures { IfOk result (IsAnswer key.now) }
 {
     match find_all(alloc, key) {
         Ok(found) => {

@@ -2,6 +2,7 @@
 //! stand with the observed values.
 
 ghost use Rattle.std.specs.Prelude.{◌≡◌, ◌+◌, ◌<◌, ◌≤◌, ◌++◌, ◌∷◌, [], Err, IfOk, length, filter};
+ghost use Rattle.poly_decide.specs.Pruned.{IsPruned};
 ghost use Rattle.poly_specs.specs.Bits.{SomePasses};
 ghost use Rattle.poly_specs.specs.Elimination.{eliminated_each, formed_each, columns_down};
 ghost use Rattle.poly_specs.specs.Systems.{AreFreeOf};
@@ -14,7 +15,8 @@ use crate::sample_rows::{added_rows, exact_rows, is_exact};
 use fm_eliminate::{RowFault, System};
 use frac128::Frac;
 use lha_model::Automaton;
-use std::alloc::Global;
+use poly_decide::prune;
+use std::alloc::{AllocError, Global};
 
 /// The state with the rows of the sample.
 fn sample_system(
@@ -93,9 +95,36 @@ fn without_exact(
 /// Where runs may stand that pass a sample when the gap's length has elapsed.
 ///
 /// The state is rows over the values and then the time that has elapsed in the gap; the result is
-/// rows over the values. It holds where the rows of the plain stage do, and has some of them. It
-/// says `RowFault::Passes` where a number of the plain stage passes 128 bits.
+/// rows over the values. It holds where the rows of the plain stage do, and has some of them, without
+/// those that are found to be implied by others. It says `RowFault::Passes` where a number of the
+/// plain stage passes 128 bits.
 pub fn sample_stage(
+    alloc: Global,
+    a: &Automaton,
+    gap: &Frac,
+    seen: &[Option<Frac>],
+    state: &System,
+) -> Result<System, RowFault>
+    requires sized { length seen.now ≡ width a.now }
+    requires wide { state.now.width ≡ width a.now + 1 }
+    ensures wide { IfOk result (λ s. s.width ≡ width a.now) }
+    ensures plain { IfOk result (λ s. IsPlain (width a.now) s.rows (rows_after (stages.sample_stage a.now gap.now seen.now state.now.rows))) }
+    ensures passes { result ≡ Err RowFault.Passes → SomePasses (stage_numbers (stages.sample_stage a.now gap.now seen.now state.now.rows)) }
+{
+    let system = unpruned_stage(alloc, a, gap, seen, state)?;
+    let few = pruned(alloc, &system)?;
+    Ok(few)
+}
+
+/// The system without rows that others imply.
+fn pruned(alloc: Global, system: &System) -> Result<System, AllocError>
+    ensures { IfOk result (λ s. IsPruned system.now s) }
+{
+    prune(alloc, system)
+}
+
+/// The same, before rows that others imply are dropped.
+fn unpruned_stage(
     alloc: Global,
     a: &Automaton,
     gap: &Frac,

@@ -4,7 +4,8 @@ ghost use Rattle.std.specs.Prelude.{◌≡◌, ◌+◌, ◌<◌, ◌++◌, [], �
 ghost use Rattle.run_specs.specs.Automaton.{width};
 ghost use Rattle.run_specs.specs.Openings.{IsOpening};
 ghost use Rattle.run_specs.specs.Passes.{OpeningPasses};
-ghost use Rattle.sample_succ.specs.Starts.{IsStartState, StartsBefore};
+ghost use Rattle.gap_keys.specs.Views.{AreWide, states_of};
+ghost use Rattle.sample_succ.specs.Starts.{IsStart, AreStartsBefore};
 
 use fm_eliminate::{RowFault, System};
 use gap_keys::{Belief, State};
@@ -35,7 +36,7 @@ fn both(alloc: Global, first: &[Row], second: &[Row]) -> Result<Vec<Row>, AllocE
 /// The state where runs may start in location number `l`; `None` where none may.
 fn start_state(alloc: Global, a: &Automaton, l: u8) -> Result<Option<State>, RowFault>
     requires known { l < length a.now.locations }
-    ensures ok { IfOk result (λ o. IsStartState a.now l o) }
+    ensures ok { IfOk result (λ o. IsStart a.now l o) }
     ensures passes { result ≡ Err RowFault.Passes → OpeningPasses a.now }
 {
     let place = &a.locs()[usize::from(l)];
@@ -53,8 +54,8 @@ fn start_state(alloc: Global, a: &Automaton, l: u8) -> Result<Option<State>, Row
 /// Adds the state where runs may start in this location, if there is one.
 fn add_start(alloc: Global, a: &Automaton, l: u8, states: &mut Vec<State>) -> Result<(), RowFault>
     requires known { l < length a.now.locations }
-    requires before { StartsBefore a.now l states.old.items }
-    ensures ok { OnOk result (StartsBefore a.now (l + 1) states.new.items) }
+    requires before { AreStartsBefore a.now l states.old.items }
+    ensures ok { OnOk result (AreStartsBefore a.now (l + 1) states.new.items) }
     ensures passes { result ≡ Err RowFault.Passes → OpeningPasses a.now }
 {
     let state = start_state(alloc, a, l)?;
@@ -72,11 +73,13 @@ fn put(states: &mut Vec<State>, state: State) -> Result<(), AllocError>
 }
 
 /// The states where runs may start: one for each location that has `init` rows which hold
-/// somewhere with its invariant, in order, without a mark.
+/// somewhere with its invariant, in order, without a mark. Their systems are over the automaton's
+/// variables.
 ///
 /// It says `RowFault::Passes` where a number that deciding so forms passes 128 bits.
 pub fn opening(alloc: Global, a: &Automaton) -> Result<Belief, RowFault>
-    ensures ok { IfOk result (λ b. IsOpening a.now (Some b)) }
+    ensures ok { IfOk result (λ b. IsOpening a.now (Some (states_of b))) }
+    ensures wide { IfOk result (λ b. AreWide (width a.now) b) }
     ensures passes { result ≡ Err RowFault.Passes → IsOpening a.now None }
 {
     let mut states = Vec::new(alloc);

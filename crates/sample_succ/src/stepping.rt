@@ -55,7 +55,8 @@ fn timely(alloc: Global, key: &Key, system: &System) -> Result<System, AllocErro
     Ok(timely)
 }
 
-/// The system, unless it has no point before the gap is over: no run goes on from there.
+/// The system, unless it has no point where at most the gap's length has elapsed: no run goes on from
+/// there. A point right at the gap's end is in time.
 fn if_in_time(alloc: Global, key: &Key, system: System) -> Result<Option<System>, RowFault>
     requires wide { system.width ≡ width key.now.automaton + 1 }
     ensures ok { IfOk result (λ o. (s : Stage) → system.width ≡ s.left → IsPlain s.left system.rows (rows_after s) → IsLeftInTime key.now s o) }
@@ -84,7 +85,8 @@ pub fn leg(alloc: Global, key: &Key, loc: u8, before: &System) -> Result<Option<
     if_any(alloc, system)
 }
 
-/// Where jumps by this transition end that start in a state, unless none ends before the gap is over.
+/// Where jumps by this transition end that start in a state, unless none ends in time. A jump right at
+/// the gap's end is in time.
 pub fn jump(alloc: Global, key: &Key, e: u8, before: &System) -> Result<Option<System>, RowFault>
     requires known { e < length key.now.automaton.transitions }
     requires wide { before.now.width ≡ width key.now.automaton + 1 }

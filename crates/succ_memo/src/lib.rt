@@ -4,6 +4,7 @@
 //! key beside one, and a `MemoState` keeps entries for keys that come again.
 #![tactic(auto)]
 
+mod crossing;
 mod filler;
 mod memo;
 mod relation;

@@ -1,5 +1,5 @@
-use Rattle.gap_keys.proofs.KeyEquality.{states_exact}
+use Rattle.gap_keys.proofs.KeyEquality.{views_exact}
 use Rattle.gap_keys.proofs.equality.equal_states.Goals as goal
 
 pub returns : goal.returns
-returns c = states_exact
+returns c = views_exact

@@ -1,5 +1,5 @@
-use Rattle.std.proofs.Common.{◌≡◌, ◌+◌, ◌∙◌, true, false, List, sym, subst, take, length}
-use Rattle.std.specs.Prelude.{All, Any, MatchBool}
+use Rattle.std.proofs.Common.{subst}
+use Rattle.std.specs.Prelude.{All, MatchBool}
 use Rattle.std.proofs.lemmas.List.{take_all}
 use Rattle.std.proofs.lemmas.List.Elements.{All-more}
 use Rattle.fm_eliminate.proofs.CountLemmas.{any_in}

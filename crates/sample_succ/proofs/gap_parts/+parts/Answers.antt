@@ -1,8 +1,7 @@
-use Rattle.std.proofs.Common.{◌≡◌, ◌+◌, ◌-◌, ◌<◌, ◌∙◌, [], ◌∷◌, Err, List, length, arith, ap, rules, sym, subst}
+use Rattle.std.proofs.Common.{◌≡◌, Err, List, length, arith, ap, rules, sym, subst}
 use Rattle.std.specs.Prelude.{option_map}
 use Rattle.fm_eliminate.specs.declared.RowFault.TheVariants.{Passes}
 use Rattle.poly_specs.specs.Rows.{Row}
-use Rattle.run_specs.specs.Automaton.{transition_at}
 use Rattle.run_specs.specs.Passes.{Fits}
 use Rattle.run_specs.specs.Stages.{rows_after, leg_stage, jump_stage, path_stages}
 use Rattle.sample_succ.specs.Parts.{IsSplit, AreParts, SomeFormedPasses}

@@ -1,4 +1,4 @@
-use Rattle.std.proofs.Common.{◌≡◌, ◌<◌, ◌∙◌, ◌||◌, length, ap, ap₂, sym, subst}
+use Rattle.std.proofs.Common.{◌≡◌, ◌<◌, ◌∙◌, ◌||◌, length, ap, sym, subst}
 use Rattle.run_specs.specs.Automaton.{location_at}
 use Rattle.run_specs.specs.Keys.{parent_at}
 use Rattle.sample_succ.proofs.GapStartLemmas.{node_is}

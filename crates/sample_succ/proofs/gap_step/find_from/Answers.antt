@@ -1,4 +1,4 @@
-use Rattle.std.proofs.Common.{◌≡◌, ◌+◌, ◌∙◌, length, arith, ap, sym, subst}
+use Rattle.std.proofs.Common.{◌∙◌, length, arith, ap, sym, subst}
 use Rattle.sample_succ.specs.Covers.{items_of}
 use Rattle.sample_succ.specs.Walks.{AllBefore, WalkedTo}
 use Rattle.sample_succ.proofs.WalkLemmas.{all_before, from_next}

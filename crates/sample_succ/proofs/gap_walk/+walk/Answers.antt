@@ -1,5 +1,4 @@
-use Rattle.std.proofs.Common.{◌≡◌, ◌+◌, ◌∙◌, length, arith, ap, sym, subst}
-use Rattle.run_specs.specs.Outcomes.{KeyPasses}
+use Rattle.std.proofs.Common.{◌+◌, arith, sym, subst}
 use Rattle.sample_succ.specs.Walks.{WalkedTo, IsVisited, IsJumped}
 use Rattle.sample_succ.proofs.WalkLemmas.{walked_all, walked_past, next_walked, next_before, next_left}
 use Rattle.sample_succ.proofs.gap_walk.+walk.Goals as goal

@@ -1,12 +1,10 @@
-use Rattle.std.proofs.Common.{◌≡◌, ◌+◌, ◌≤◌, ◌∙◌, Err, Some, ap, arith, rules, sym, subst, inl, inr, List}
+use Rattle.std.proofs.Common.{◌≡◌, ◌+◌, Err, ap, arith, rules, sym, subst}
 use Rattle.fm_eliminate.specs.declared.RowFault.TheVariants.{Passes}
 use Rattle.poly_specs.specs.Rows.{AllWide}
 use Rattle.run_specs.specs.Automaton.{width}
 use Rattle.run_specs.specs.Stages.{sample_stage}
-use Rattle.sample_succ.specs.declared.finding.Found.{Found}
 use Rattle.sample_succ.specs.Covers.{AreWide}
 use Rattle.sample_succ.specs.Plain.{IsLeft}
-use Rattle.sample_succ.specs.Walks.{WalkedTo, IsPutNew}
 use Rattle.sample_succ.proofs.VisitLemmas.{sample_passes, sample_none, put_walked}
 use Rattle.sample_succ.proofs.gap_walk.add_item.Goals as goal
 

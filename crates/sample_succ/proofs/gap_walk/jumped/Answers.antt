@@ -1,7 +1,7 @@
 use Rattle.std.proofs.Common.{◌≡◌, ◌+◌, ◌∙◌, Err, ap, rules, sym, subst}
 use Rattle.fm_eliminate.specs.declared.RowFault.TheVariants.{Passes}
 use Rattle.poly_specs.specs.Rows.{AllWide}
-use Rattle.run_specs.specs.Automaton.{width, transition_at}
+use Rattle.run_specs.specs.Automaton.{width}
 use Rattle.run_specs.specs.Stages.{jump_stage}
 use Rattle.sample_succ.specs.Plain.{IsLeftInTime}
 use Rattle.sample_succ.proofs.VisitLemmas.{jump_away, jump_passes, jump_none, jump_some}

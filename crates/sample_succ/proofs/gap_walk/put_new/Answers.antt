@@ -1,4 +1,4 @@
-use Rattle.std.proofs.Common.{◌≡◌, true, false, refl, subst, inl, inr}
+use Rattle.std.proofs.Common.{refl, subst, inl, inr}
 use Rattle.std.specs.Prelude.{All, Any, MatchBool}
 use Rattle.sample_succ.specs.Covers.{DoesCover, DoesNotCover}
 use Rattle.sample_succ.proofs.gap_walk.put_new.Goals as goal

@@ -1,4 +1,4 @@
-use Rattle.std.proofs.Common.{◌≡◌, ◌+◌, ◌<◌, Err, ap, rules, sym, subst}
+use Rattle.std.proofs.Common.{◌≡◌, ◌+◌, Err, ap, rules, subst}
 use Rattle.fm_eliminate.specs.declared.RowFault.TheVariants.{Passes}
 use Rattle.poly_specs.specs.Rows.{AllWide}
 use Rattle.run_specs.specs.Automaton.{width}

@@ -1,5 +1,4 @@
-use Rattle.std.proofs.Common.{◌≡◌, ◌+◌, true, [], ◌∷◌, ap, sym, subst, arith, ◌∙◌, false}
-use Rattle.std.specs.Prelude.{filter}
+use Rattle.std.proofs.Common.{◌≡◌, ◌+◌, true, sym, subst, arith, ◌∙◌}
 use Rattle.std.proofs.lemmas.Result.{IfOk-weaker}
 use Rattle.poly_specs.specs.Elimination.{eliminated_each}
 use Rattle.poly_specs.specs.Rows.{AllWide}

@@ -1,13 +1,12 @@
-use Rattle.std.proofs.Common.{◌≡◌, ◌<◌, ◌++◌, List, Err, Some, length, get_or, ap, rules, refl, sym, subst, ◌∙◌}
+use Rattle.std.proofs.Common.{◌≡◌, List, Err, length, get_or, ap, rules, subst, ◌∙◌}
 use Rattle.std.specs.Prelude.{MatchBool, false}
 use Rattle.std.proofs.lemmas.List.{get_or_read}
 use Rattle.fm_eliminate.specs.declared.RowFault.TheVariants.{Passes}
 use Rattle.poly_specs.specs.Bits.{SomePasses}
 use Rattle.poly_specs.specs.Bounds.{emptiness_numbers}
 use Rattle.poly_specs.specs.Rows.{Row, HasPoint}
-use Rattle.poly_specs.specs.Systems.{System}
-use Rattle.run_specs.specs.Automaton.{Automaton, Location, location_at, nowhere, width}
-use Rattle.sample_succ.specs.Starts.{IsStartState}
+use Rattle.run_specs.specs.Automaton.{location_at, nowhere}
+use Rattle.gap_keys.specs.Views.{StateView}
 use Rattle.sample_succ.proofs.StartLemmas.{start_system, start_passes, some_start}
 use Rattle.sample_succ.proofs.start.start_state.Goals as goal
 
@@ -36,5 +35,7 @@ returns-clause-ok c =
     let at = start_system a l c.index-locs-from.result init c.inv.result.now c.in_ok-rows.rows.items (length c.vars.result.now) c.of_rows-system.result place c.in-Some.ensures c.inv.ensures c.in_ok-rows.ensures
     (ap length c.vars.ensures.value) c.of_rows-system.ensures in
     let point : HasPoint c.of_rows-system.result.width c.of_rows-system.result.rows = subst (λ b. MatchBool b (HasPoint c.of_rows-system.result.width c.of_rows-system.result.rows → ⊥) (HasPoint c.of_rows-system.result.width c.of_rows-system.result.rows)) c.if-branch.false c.in_ok-is_empty.ensures.ok in
-    some_start a c.locs.ensures.kept l c.requires.known init c.new.result at.0 (subst (λ s. HasPoint s.width s.rows) at.1 point)
-    (c.new.ensures ∙ ap (λ rows. record { loc = l; seen_unsafe = false; rows = rows }) (ap (λ s. s.rows) at.1))
+    let state = ap (λ (v : StateView). v.state) c.new.ensures ∙ ap (λ rows. record { loc = l; seen_unsafe = false; rows = rows }) (ap (λ s. s.rows) at.1) in (
+      some_start a c.locs.ensures.kept l c.requires.known init c.new.result.state at.0 (subst (λ s. HasPoint s.width s.rows) at.1 point) state,
+      ap (λ (v : StateView). v.width) c.new.ensures ∙ ap (λ s. s.width) at.1,
+    )

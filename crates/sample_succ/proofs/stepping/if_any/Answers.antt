@@ -1,4 +1,4 @@
-use Rattle.std.proofs.Common.{◌≡◌, Err, ap, rules, sym, subst}
+use Rattle.std.proofs.Common.{◌≡◌, Err, ap, rules, subst}
 use Rattle.std.specs.Prelude.{MatchBool}
 use Rattle.fm_eliminate.specs.declared.RowFault.TheVariants.{Passes}
 use Rattle.poly_specs.specs.Rows.{HasPoint}

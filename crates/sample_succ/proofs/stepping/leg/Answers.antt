@@ -3,12 +3,11 @@ use Rattle.std.specs.Prelude.{IfOk}
 use Rattle.std.proofs.lemmas.Result.{IfOk-weaker}
 use Rattle.fm_eliminate.specs.declared.RowFault.TheVariants.{Passes}
 use Rattle.poly_specs.specs.Bits.{SomePasses}
-use Rattle.poly_specs.specs.Lists.{IsAmong}
 use Rattle.poly_specs.specs.Rows.{AllWide}
-use Rattle.run_specs.specs.Automaton.{Automaton, width}
-use Rattle.run_specs.specs.Stages.{leg_stage, rows_after, stage_numbers}
+use Rattle.run_specs.specs.Automaton.{width}
+use Rattle.run_specs.specs.Stages.{leg_stage, stage_numbers}
 use Rattle.run_specs.specs.WellFormed.{IsWellFormed}
-use Rattle.sample_succ.specs.Plain.{IsPlain, IsLeft}
+use Rattle.sample_succ.specs.Plain.{IsLeft}
 use Rattle.sample_succ.proofs.PlainLemmas.{formed_pass}
 use Rattle.sample_succ.proofs.StepLemmas.{leg_left}
 use Rattle.sample_succ.proofs.stepping.leg.Goals as goal

@@ -1,14 +1,14 @@
-use Rattle.std.proofs.Common.{◌≡◌, ◌+◌, Err, ap, rules, sym, subst, ◌∙◌, List, Option}
+use Rattle.std.proofs.Common.{◌≡◌, Err, ap, rules, subst, ◌∙◌, List, Option}
 use Rattle.std.specs.Prelude.{IfOk}
 use Rattle.std.proofs.lemmas.Result.{IfOk-weaker}
 use Rattle.fm_eliminate.specs.declared.RowFault.TheVariants.{Passes}
 use Rattle.poly_specs.specs.Bits.{SomePasses}
 use Rattle.poly_specs.specs.Fractions.{Fraction}
 use Rattle.poly_specs.specs.Rows.{Row}
-use Rattle.run_specs.specs.Automaton.{Automaton, width}
+use Rattle.run_specs.specs.Automaton.{Automaton}
 use Rattle.run_specs.specs.Stages.{Stage, rows_after, stage_numbers}
 use Rattle.run_specs.specs.Stages as stages
-use Rattle.sample_succ.specs.Plain.{IsPlain, IsLeft}
+use Rattle.sample_succ.specs.Plain.{IsLeft}
 use Rattle.sample_succ.proofs.stepping.sample.Goals as goal
 
 -- the stage, of equal parts
