@@ -3,7 +3,6 @@ use Rattle.std.proofs.Common.{◌≡◌, ◌≢◌, ℕ, ◌<◌, ◌≤◌, Lis
 use Rattle.std.specs.Prelude.{IfSome, IfOk, IfErr}
 use Rattle.run_specs.specs.Automaton.{Automaton}
 use Rattle.model_specs.specs.Automata.{HasOneOfEachName}
-use Rattle.report_loop.specs.Tasks.{AreNamedApart}
 use Rattle.text_specs.specs.ModelTexts.{most_bytes, SaysAutomata, TextFault, TooLong, HasFault}
 use Rattle.model_reader.specs.declared.faults.ModelFault.{ModelFault}
 use Rattle.model_reader.specs.declared.faults.ModelFault.TheVariants.{Long}
@@ -73,14 +72,7 @@ pub if_lacks : {A : Type 0} (r : Result A NoModels) (o : Option (List ℕ)) (f g
 if_lacks (Ok v) o f g xs told is = tt
 if_lacks (Err e) o f g xs told is = lacks_read o f g xs e told is
 
--- automata with distinct names, and distinct variables and locations, are named apart
-named_apart : (automata : List Automaton) → HasOneOfEachName automata → AreNamedApart automata
-named_apart automata names = record {
-  automata_once = names.0;
-  variables_once = λ i a at. (names.1 i a at).variables;
-}
-
 -- a text's automata
 pub are_models : (text : List ℕ) (automata : List Automaton) → SaysAutomata text automata → ((others : List Automaton) → SaysAutomata text others → automata ≡ others) → 1 ≤ length automata →
     HasOneOfEachName automata → AreModelsOf text automata
-are_models text automata says only some names = record { says = says; only = λ others is. sym (only others is); some = some; names = named_apart automata names }
+are_models text automata says only some names = record { says = says; only = λ others is. sym (only others is); some = some; names = names }

@@ -1,5 +1,5 @@
 -- What a run says, by what its parts say.
-use Rattle.std.proofs.Common.{◌≡◌, ◌⊎◌, inl, inr, ℕ, List, [], length, Option, None, Some, refl, sym, subst, arith}
+use Rattle.std.proofs.Common.{◌≡◌, ◌≢◌, ◌⊎◌, inl, inr, ℕ, List, [], length, Option, None, Some, refl, sym, subst, arith}
 use Rattle.std.specs.Prelude.{IfSome}
 use Rattle.std.specs.Io.KnownBytes.{Keeps}
 use Rattle.mon_io.specs.Faults.{Rose}
@@ -7,7 +7,7 @@ use Rattle.run_specs.specs.Automaton.{Automaton}
 use Rattle.report_specs.specs.Report.{Rules}
 use Rattle.log_specs.specs.LogReports.{rules_of}
 use Rattle.text_specs.specs.ModelTexts.{SaysAutomata}
-use Rattle.command_words.specs.CommandLine.{Command, Request}
+use Rattle.command_words.specs.CommandLine.{Request}
 use Rattle.command_words.specs.declared.options.Options.{Options}
 use Rattle.report_loop.specs.declared.status.Status.{Status}
 use Rattle.report_loop.specs.declared.status.Status.TheVariants as status
@@ -17,8 +17,8 @@ use Rattle.report_loop.proofs.WriteLemmas.{covers_map, all_some, whole_some}
 use Rattle.hamon_engine.specs.declared.models.NoModels.{NoModels}
 use Rattle.hamon_engine.specs.declared.models.NoModels.TheVariants.{Refused, Failed, Memory}
 use Rattle.hamon_engine.specs.Models.{AreModelsOf, LacksModels}
-use Rattle.hamon_engine.specs.Runs.{Outside, IsUndisturbed, IsComplete, Completes, MayEndWith, HasNoModel, RunsText, RunsWords, HasCause, model_of}
-use Rattle.hamon_engine.specs.Telling.{TellsCause, status_of, ended_by}
+use Rattle.hamon_engine.specs.Runs.{Outside, IsUndisturbed, IsComplete, Completes, HasNoModel, RunsText, RunsWords, HasCause, model_of}
+use Rattle.hamon_engine.specs.Telling.{status_of, ended_by}
 
 keeps_same : (o : Option (List ℕ)) → Keeps o o
 keeps_same None = tt
@@ -64,9 +64,9 @@ no_automata (Some text) P f h = f text h
 pub lacks_runs : (s : Streams) (t u : List ℕ → Option (List ℕ)) (f h : ℕ) (why : NoModels) (r : Request) → LacksModels (t (model_of r.command)) f h why →
     RunsWords (outside s t f) (outside s u h) (status_of (ended_by why)) (Some r)
 lacks_runs s t u f h (Refused line) r l =
-    (tt, told_refused s t u f h r.options (t (model_of r.command)) (no_automata (t (model_of r.command)) _ (λ text is. is.none) l.holds))
-lacks_runs s t u f h Failed r l = (tt, told_without s t u f h status.ReadFault r.options (t (model_of r.command)) (inl (refl, l)))
-lacks_runs s t u f h Memory r l = (tt, told_without s t u f h status.Memory r.options (t (model_of r.command)) (inr refl))
+    (λ e. cc, told_refused s t u f h r.options (t (model_of r.command)) (no_automata (t (model_of r.command)) _ (λ text is. is.none) l.holds))
+lacks_runs s t u f h Failed r l = (λ e. cc, told_without s t u f h status.ReadFault r.options (t (model_of r.command)) (inl (refl, l)))
+lacks_runs s t u f h Memory r l = (λ e. cc, told_without s t u f h status.Memory r.options (t (model_of r.command)) (inr refl))
 
 pub lacks_cause : (s : Streams) (t u : List ℕ → Option (List ℕ)) (f h : ℕ) (why : NoModels) (o : Option (List ℕ)) → LacksModels o f h why →
     HasCause (outside s t f) (outside s u h) (status_of (ended_by why))
@@ -77,39 +77,31 @@ lacks_cause s t u f h Memory o l = tt
 -- memory was wanted before the words were read
 pub memory_first : (s : Streams) (t u : List ℕ → Option (List ℕ)) (f h : ℕ) (o : Option Request) → RunsWords (outside s t f) (outside s u h) status.Memory o
 memory_first s t u f h None = (untouched_same s, inr refl)
-memory_first s t u f h (Some r) = (tt, told_without s t u f h status.Memory r.options (t (model_of r.command)) (inr refl))
+memory_first s t u f h (Some r) = (λ e. cc, told_without s t u f h status.Memory r.options (t (model_of r.command)) (inr refl))
 
 -- ---- a model
 
-pub says_status : {K : Type 0} (rules : Rules K) (before now : Streams) (x : Status) (command : Command) → Says rules before now x → MayEndWith x command
-says_status rules before now status.Clean command h = tt
-says_status rules before now status.Alarm command h = tt
-says_status rules before now status.Overflow command h = tt
-says_status rules before now status.ReadFault command h = tt
-says_status rules before now status.WriteFault command h = tt
-says_status rules before now status.Memory command h = tt
-says_status rules before now status.Limit command h = tt
-says_status rules before now status.Words command h = absurd h
-says_status rules before now status.Model command h = absurd h
-says_status rules before now status.NotARun command h = absurd h
-says_status rules before now status.NotACert command h = absurd h
-says_status rules before now status.UnknownVar command h = absurd h
-says_status rules before now status.SavedText command h = absurd h
+pub says_no_words : {K : Type 0} (rules : Rules K) (before now : Streams) (x : Status) → Says rules before now x → x ≢ status.Words
+says_no_words rules before now status.Words h = absurd h
+says_no_words rules before now status.Clean h = λ w. cc
+says_no_words rules before now status.Alarm h = λ w. cc
+says_no_words rules before now status.Overflow h = λ w. cc
+says_no_words rules before now status.Model h = λ w. cc
+says_no_words rules before now status.ReadFault h = λ w. cc
+says_no_words rules before now status.WriteFault h = λ w. cc
+says_no_words rules before now status.Memory h = λ w. cc
+says_no_words rules before now status.Limit h = λ w. cc
 
-pub says_cause_alone : {K : Type 0} (rules : Rules K) (before now : Streams) (x : Status) → Says rules before now x → TellsCause x
-says_cause_alone rules before now status.Clean h = (λ m. cc, λ m. cc)
-says_cause_alone rules before now status.Alarm h = (λ m. cc, λ m. cc)
-says_cause_alone rules before now status.Overflow h = (λ m. cc, λ m. cc)
-says_cause_alone rules before now status.ReadFault h = (λ m. cc, λ m. cc)
-says_cause_alone rules before now status.WriteFault h = (λ m. cc, λ m. cc)
-says_cause_alone rules before now status.Memory h = (λ m. cc, λ m. cc)
-says_cause_alone rules before now status.Limit h = (λ m. cc, λ m. cc)
-says_cause_alone rules before now status.Words h = absurd h
-says_cause_alone rules before now status.Model h = absurd h
-says_cause_alone rules before now status.NotARun h = absurd h
-says_cause_alone rules before now status.NotACert h = absurd h
-says_cause_alone rules before now status.UnknownVar h = absurd h
-says_cause_alone rules before now status.SavedText h = absurd h
+pub says_no_model : {K : Type 0} (rules : Rules K) (before now : Streams) (x : Status) → Says rules before now x → x ≢ status.Model
+says_no_model rules before now status.Model h = absurd h
+says_no_model rules before now status.Clean h = λ w. cc
+says_no_model rules before now status.Alarm h = λ w. cc
+says_no_model rules before now status.Overflow h = λ w. cc
+says_no_model rules before now status.Words h = λ w. cc
+says_no_model rules before now status.ReadFault h = λ w. cc
+says_no_model rules before now status.WriteFault h = λ w. cc
+says_no_model rules before now status.Memory h = λ w. cc
+says_no_model rules before now status.Limit h = λ w. cc
 
 says_text : (s n : Streams) (t u : List ℕ → Option (List ℕ)) (f h : ℕ) (x : Status) (options : Options) (automata : List Automaton) (told : Option (List ℕ)) →
     IfSome told (λ text. AreModelsOf text automata) → Says (rules_of (check_task automata options.jumps)) s n x → IfSome told (RunsText (outside s t f) (outside n u h) x options)
@@ -123,7 +115,7 @@ pub says_runs : (s n : Streams) (t u : List ℕ → Option (List ℕ)) (f h : �
     IfSome (t (model_of r.command)) (λ text. AreModelsOf text automata) → Says (rules_of (check_task automata r.options.jumps)) s n x →
     RunsWords (outside s t f) (outside n u h) x (Some r)
 says_runs s n t u f h x automata r is says =
-    (says_status (rules_of (check_task automata r.options.jumps)) s n x r.command says, says_text s n t u f h x r.options automata (t (model_of r.command)) is says)
+    (says_no_words (rules_of (check_task automata r.options.jumps)) s n x says, says_text s n t u f h x r.options automata (t (model_of r.command)) is says)
 
 pub says_cause : {K : Type 0} (rules : Rules K) (s n : Streams) (t u : List ℕ → Option (List ℕ)) (f h : ℕ) (x : Status) → Says rules s n x → HasCause (outside s t f) (outside n u h) x
 says_cause rules s n t u f h status.Clean says = tt
@@ -135,10 +127,6 @@ says_cause rules s n t u f h status.ReadFault says = inl says.covers.why
 says_cause rules s n t u f h status.WriteFault says = says.1
 says_cause rules s n t u f h status.Words says = absurd says
 says_cause rules s n t u f h status.Model says = absurd says
-says_cause rules s n t u f h status.NotARun says = absurd says
-says_cause rules s n t u f h status.NotACert says = absurd says
-says_cause rules s n t u f h status.UnknownVar says = absurd says
-says_cause rules s n t u f h status.SavedText says = absurd says
 
 -- ---- want of memory in telling the cause
 
@@ -152,10 +140,6 @@ some_of rules before now status.WriteFault i = i.0
 some_of rules before now status.Memory i = i
 some_of rules before now status.Words i = absurd i
 some_of rules before now status.Model i = absurd i
-some_of rules before now status.NotARun i = absurd i
-some_of rules before now status.NotACert i = absurd i
-some_of rules before now status.UnknownVar i = absurd i
-some_of rules before now status.SavedText i = absurd i
 
 memory_reports : {K : Type 0} (rules : Rules K) (before now : Outside) (x : Status) → Says rules before.streams now.streams x ⊎ HasNoModel before now x →
     Says rules before.streams now.streams status.Memory ⊎ HasNoModel before now status.Memory
@@ -176,7 +160,7 @@ memory_told before now x options (Some text) r = memory_text before now x option
 
 memory_runs : (before now : Outside) (x : Status) (o : Option Request) → RunsWords before now x o → RunsWords before now status.Memory o
 memory_runs before now x None r = (r.0, inr refl)
-memory_runs before now x (Some q) r = (tt, memory_told before now x q.options (before.shelf (model_of q.command)) r.1)
+memory_runs before now x (Some q) r = (λ w. cc, memory_told before now x q.options (before.shelf (model_of q.command)) r.1)
 
 pub told_runs : (s n : Streams) (t u : List ℕ → Option (List ℕ)) (f h : ℕ) (x y : Status) (o : Option Request) → (y ≡ x) ⊎ (y ≡ status.Memory) → RunsWords (outside s t f) (outside n u h) x o →
     RunsWords (outside s t f) (outside n u h) y o
@@ -203,10 +187,6 @@ complete_says rules before now status.Limit u says =
     absurd (omega (arith, below, full))
 complete_says rules before now status.Words u says = absurd says
 complete_says rules before now status.Model u says = absurd says
-complete_says rules before now status.NotARun u says = absurd says
-complete_says rules before now status.NotACert u says = absurd says
-complete_says rules before now status.UnknownVar u says = absurd says
-complete_says rules before now status.SavedText u says = absurd says
 
 complete_by : {K : Type 0} (rules : Rules K) (before now : Outside) (x : Status) → IsUndisturbed before now → Says rules before.streams now.streams x ⊎ HasNoModel before now x → IsComplete x
 complete_by rules before now x u (inl says) = complete_says rules before now x u says

@@ -1,16 +1,16 @@
 -- The line of a cause, told whole or in part.
-use Rattle.std.proofs.Common.{◌≡◌, ◌⊎◌, inl, inr, ℕ, List, length, Option, refl, sym, ◌∙◌, subst, arith}
+use Rattle.std.proofs.Common.{◌≡◌, ◌≢◌, ◌⊎◌, inl, inr, ℕ, List, length, Option, refl, sym, ◌∙◌, subst, arith}
 use Rattle.std.proofs.Math.Seq.{take-length}
 use Rattle.std.specs.Io.KnownBytes.{Appends}
 use Rattle.report_loop.specs.declared.status.Status.{Status}
 use Rattle.report_loop.specs.declared.status.Status.TheVariants as status
-use Rattle.hamon_engine.specs.Telling.{cause_line, TellsCause, TellsLine, IsModelLine, IsTold, IsLineTold}
+use Rattle.hamon_engine.specs.Telling.{cause_line, TellsLine, IsModelLine, IsTold, IsLineTold}
 
 pub whole_line : (old new : Option (List ℕ)) (f g : ℕ) (line : List ℕ) → Appends old new line → TellsLine old new f g line
 whole_line old new f g line wrote = (length line, subst (λ z. Appends old new z) (sym (take-length line)) wrote, λ l. absurd (omega (arith, l)))
 
 -- what was told at a status, unless memory was wanted
-told_status : (text old new : Option (List ℕ)) (f g : ℕ) (s : Status) → TellsCause s → IsLineTold old new f g (cause_line s) s → IsTold text old new f g s
+told_status : (text old new : Option (List ℕ)) (f g : ℕ) (s : Status) → s ≢ status.Model → IsLineTold old new f g (cause_line s) s → IsTold text old new f g s
 told_status text old new f g status.Memory other t = tt
 told_status text old new f g status.Clean other t = t (λ e. cc)
 told_status text old new f g status.Alarm other t = t (λ e. cc)
@@ -19,13 +19,9 @@ told_status text old new f g status.Words other t = t (λ e. cc)
 told_status text old new f g status.ReadFault other t = t (λ e. cc)
 told_status text old new f g status.WriteFault other t = t (λ e. cc)
 told_status text old new f g status.Limit other t = t (λ e. cc)
-told_status text old new f g status.NotARun other t = t (λ e. cc)
-told_status text old new f g status.NotACert other t = t (λ e. cc)
-told_status text old new f g status.UnknownVar other t = t (λ e. cc)
-told_status text old new f g status.Model other t = absurd (other.0 refl)
-told_status text old new f g status.SavedText other t = absurd (other.1 refl)
+told_status text old new f g status.Model other t = absurd (other refl)
 
-pub told_at : (text old new : Option (List ℕ)) (f g : ℕ) (s result : Status) (line : List ℕ) → line ≡ cause_line s → (result ≡ s) ⊎ (result ≡ status.Memory) → TellsCause s →
+pub told_at : (text old new : Option (List ℕ)) (f g : ℕ) (s result : Status) (line : List ℕ) → line ≡ cause_line s → (result ≡ s) ⊎ (result ≡ status.Memory) → s ≢ status.Model →
     IsLineTold old new f g line result → IsTold text old new f g result
 told_at text old new f g s result line is (inl e) other t =
     subst (λ z. IsTold text old new f g z) (sym e)

@@ -1,7 +1,7 @@
 -- The automata of a model, or why there are none.
 use Rattle.std.specs.Prelude.{◌≡◌, ℕ, ◌≤◌, List, length, Option, Some, IfSome, ⊤}
 use Rattle.run_specs.specs.Automaton.{Automaton}
-use Rattle.report_loop.specs.Tasks.{AreNamedApart}
+use Rattle.model_specs.specs.Automata.{HasOneOfEachName}
 use Rattle.mon_io.specs.Faults.{Rose}
 use Rattle.text_specs.specs.ModelTexts.{SaysAutomata, TextFault, HasFault, fault_line}
 use Rattle.model_reader.specs.declared.faults.ModelFault.{ModelFault}
@@ -14,7 +14,7 @@ pub record AreModelsOf (text : List ℕ) (automata : List Automaton) : Type 0 wh
   pub says : SaysAutomata text automata
   pub only : (others : List Automaton) → SaysAutomata text others → others ≡ automata
   pub some : 1 ≤ length automata
-  pub names : AreNamedApart automata
+  pub names : HasOneOfEachName automata
 
 -- the text has this fault, and says no automata
 pub record IsRefusedFor (fault : TextFault) (text : List ℕ) : Type 0 where

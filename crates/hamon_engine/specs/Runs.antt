@@ -1,5 +1,5 @@
 -- What a run does with its words, its model and its log.
-use Rattle.std.specs.Prelude.{◌≡◌, ◌⊎◌, ℕ, ◌<◌, List, length, Option, None, Some, IfSome, option_and_then, ⊤}
+use Rattle.std.specs.Prelude.{◌≡◌, ◌≢◌, ◌⊎◌, ℕ, ◌<◌, List, length, Option, None, Some, IfSome, option_and_then, ⊤}
 use Rattle.std.specs.Io.KnownBytes.{Consumes}
 use Rattle.mon_io.specs.Faults.{Rose}
 use Rattle.run_specs.specs.Automaton.{Automaton}
@@ -26,25 +26,6 @@ model_of (Check model) = model
 abbrev pub model_text : (List ℕ → Option (List ℕ)) → Option Request → Option (List ℕ)
 model_text shelf request = option_and_then (λ r. shelf (model_of r.command)) request
 
--- ---- statuses
-
--- the statuses that a command may end with: those of its report, and those of a model that is not had. The others come only where
--- the words ask for a command that has them, which no words do yet
-abbrev pub MayEndWith : Status → Command → Type 0
-MayEndWith status.Clean command = ⊤
-MayEndWith status.Alarm command = ⊤
-MayEndWith status.Words command = ⊥
-MayEndWith status.Model command = ⊤
-MayEndWith status.ReadFault command = ⊤
-MayEndWith status.WriteFault command = ⊤
-MayEndWith status.Memory command = ⊤
-MayEndWith status.Overflow command = ⊤
-MayEndWith status.Limit command = ⊤
-MayEndWith status.NotARun command = ⊥
-MayEndWith status.NotACert command = ⊥
-MayEndWith status.UnknownVar command = ⊥
-MayEndWith status.SavedText command = ⊥
-
 -- ---- what is written
 
 -- no model was had, since the shelf failed or memory was wanted: nothing was read or written
@@ -66,7 +47,7 @@ pub record RunsText (before now : Outside) (s : Status) (options : Options) (tex
 -- what a run does with what its words ask for; None: they are refused
 abbrev pub RunsWords : Outside → Outside → Status → Option Request → Type 0
 RunsWords before now s None = IsUntouched before.streams now.streams × ((s ≡ status.Words) ⊎ (s ≡ status.Memory))
-RunsWords before now s (Some r) = MayEndWith s r.command × IfSome (before.shelf (model_of r.command)) (RunsText before now s r.options)
+RunsWords before now s (Some r) = (s ≢ status.Words) × IfSome (before.shelf (model_of r.command)) (RunsText before now s r.options)
 
 -- ---- completeness
 
@@ -100,7 +81,3 @@ HasCause before now status.Alarm = ⊤
 HasCause before now status.Overflow = ⊤
 HasCause before now status.Limit = ⊤
 HasCause before now status.Memory = ⊤
-HasCause before now status.NotARun = ⊤
-HasCause before now status.NotACert = ⊤
-HasCause before now status.UnknownVar = ⊤
-HasCause before now status.SavedText = ⊤

@@ -1,5 +1,5 @@
 -- The line that tells why a run ended.
-use Rattle.std.specs.Prelude.{◌≡◌, ◌≢◌, ℕ, ◌<◌, List, [], ◌++◌, length, take, Option, IfSome, ⊤, codes, decimal}
+use Rattle.std.specs.Prelude.{◌≢◌, ℕ, ◌<◌, List, [], length, take, Option, IfSome, ⊤, codes}
 use Rattle.std.specs.Io.KnownBytes.{Appends}
 use Rattle.mon_io.specs.Faults.{Rose}
 use Rattle.report_loop.specs.declared.status.Status.{Status}
@@ -10,7 +10,7 @@ use Rattle.hamon_engine.specs.declared.models.NoModels.TheVariants as none
 use Rattle.hamon_engine.specs.declared.telling.Ended.{Ended}
 use Rattle.hamon_engine.specs.declared.telling.Ended.TheVariants.{At, Refused}
 
--- the line of a status that alone tells its cause; of a refused model or saved session the text tells it
+-- the line of a status that alone tells its cause; of a refused model the text tells it
 abbrev pub cause_line : Status → List ℕ
 cause_line status.Clean = []
 cause_line status.Alarm = []
@@ -21,33 +21,6 @@ cause_line status.ReadFault = codes "hamon: read fault\n"
 cause_line status.WriteFault = codes "hamon: write fault\n"
 cause_line status.Memory = codes "hamon: memory\n"
 cause_line status.Limit = codes "hamon: limit\n"
-cause_line status.NotARun = []
-cause_line status.NotACert = []
-cause_line status.UnknownVar = codes "hamon: range: unknown\n"
-cause_line status.SavedText = []
-
--- the status alone tells its cause
-abbrev pub TellsCause : Status → Type 0
-TellsCause s = (s ≢ status.Model) × (s ≢ status.SavedText)
-
--- what is wrong with a line of a saved session's text: its form, a number out of its range, a name that is not known, or a reply
--- that differs from the one that its samples have
-pub data SavedFault : Type 0 where
-  form : SavedFault
-  range : SavedFault
-  unknown : SavedFault
-  differs : SavedFault
-
--- the word for it
-abbrev pub saved_word : SavedFault → List ℕ
-saved_word form = codes "form"
-saved_word range = codes "range"
-saved_word unknown = codes "unknown"
-saved_word differs = codes "differs"
-
--- the line that tells it, with the number of the line of the text
-abbrev pub saved_line : ℕ → SavedFault → List ℕ
-saved_line number fault = codes "hamon: saved: " ++ (decimal number ++ (codes " " ++ (saved_word fault ++ codes "\n")))
 
 -- a line, or its first bytes where a write failed
 abbrev pub TellsLine : Option (List ℕ) → Option (List ℕ) → ℕ → ℕ → List ℕ → Type 0
@@ -57,12 +30,8 @@ TellsLine old new before now line = (n : ℕ) × Appends old new (take n line) �
 abbrev pub IsModelLine : Option (List ℕ) → List ℕ → Type 0
 IsModelLine text line = TellsFault (λ fault. IfSome text (IsRefusedFor fault)) line
 
--- the line tells what is wrong with a saved session's text
-abbrev pub IsSavedLine : List ℕ → Type 0
-IsSavedLine line = (number : ℕ) × (fault : SavedFault) × (line ≡ saved_line number fault)
-
--- what is told of a run's end: for a refused model or saved session what is wrong with its text, and else the line of the status.
--- Nothing is said of want of memory
+-- what is told of a run's end: for a refused model what is wrong with its text, and else the line of the status. Nothing is said of
+-- want of memory
 abbrev pub IsTold : Option (List ℕ) → Option (List ℕ) → Option (List ℕ) → ℕ → ℕ → Status → Type 0
 IsTold text old new before now status.Model = (line : List ℕ) × IsModelLine text line × TellsLine old new before now line
 IsTold text old new before now status.Memory = ⊤
@@ -73,10 +42,6 @@ IsTold text old new before now status.Words = TellsLine old new before now (caus
 IsTold text old new before now status.ReadFault = TellsLine old new before now (cause_line status.ReadFault)
 IsTold text old new before now status.WriteFault = TellsLine old new before now (cause_line status.WriteFault)
 IsTold text old new before now status.Limit = TellsLine old new before now (cause_line status.Limit)
-IsTold text old new before now status.NotARun = TellsLine old new before now (cause_line status.NotARun)
-IsTold text old new before now status.NotACert = TellsLine old new before now (cause_line status.NotACert)
-IsTold text old new before now status.UnknownVar = TellsLine old new before now (cause_line status.UnknownVar)
-IsTold text old new before now status.SavedText = (line : List ℕ) × IsSavedLine line × TellsLine old new before now line
 
 -- ---- how a run ended
 
@@ -86,7 +51,7 @@ status_of (Refused line) = status.Model
 
 -- what is to be told is the cause
 abbrev pub IsTellable : Option (List ℕ) → Ended → Type 0
-IsTellable text (At s) = TellsCause s
+IsTellable text (At s) = s ≢ status.Model
 IsTellable text (Refused line) = IsModelLine text line.items
 
 -- the end of a run that has no automata

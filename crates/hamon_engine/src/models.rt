@@ -1,7 +1,7 @@
 //! The automata of a model that a shelf has.
 ghost use Rattle.std.specs.Prelude.{◌≡◌, ◌≤◌, length, map, option_map, IfOk, IfErr, IfSome};
 ghost use Rattle.std.specs.Arc.{arc_value};
-ghost use Rattle.report_loop.specs.Tasks.{AreNamedApart};
+ghost use Rattle.model_specs.specs.Automata.{HasOneOfEachName};
 ghost use Rattle.text_specs.specs.ModelTexts.{fault_line};
 ghost use Rattle.model_reader.specs.Told.{told_of};
 ghost use Rattle.hamon_engine.specs.Models.{AreModelsOf, IsWhyNot, IsWhyRefused, LacksModels};
@@ -56,7 +56,7 @@ pub(crate) fn models_from<S: Shelf>(
 ) -> Result<Vec<Arc<Automaton>>, NoModels>
     ensures models { IfOk result (λ v. IfSome (S.text shelf.old name.now) (λ text. AreModelsOf text (map (λ a. arc_value a) v.items))) }
     ensures some { IfOk result (λ v. 1 ≤ length v.items) }
-    ensures names { IfOk result (λ v. AreNamedApart (map (λ a. arc_value a) v.items)) }
+    ensures names { IfOk result (λ v. HasOneOfEachName (map (λ a. arc_value a) v.items)) }
     ensures lack { IfErr result (LacksModels (S.text shelf.old name.now) (S.faults shelf.old) (S.faults shelf.new)) }
     ensures later { S.faults shelf.old ≤ S.faults shelf.new }
 {

@@ -15,21 +15,17 @@ pub(crate) enum Ended {
     Refused(Vec<u8>),
 }
 
-/// The line that tells the cause of a status; empty where there is nothing to tell, or where only a text that is
-/// refused tells it.
+/// The line that tells the cause of a status; empty where there is nothing to tell, or where only the model's text tells it.
 fn cause_line(ended: Status) -> &'static str
     ensures { result.now ≡ cause_line ended }
 {
     match ended {
-        Status::Clean | Status::Alarm | Status::Overflow => "",
-        Status::NotARun | Status::NotACert => "",
-        Status::Model | Status::SavedText => "",
+        Status::Clean | Status::Alarm | Status::Overflow | Status::Model => "",
         Status::Words => "hamon: words\n",
         Status::ReadFault => "hamon: read fault\n",
         Status::WriteFault => "hamon: write fault\n",
         Status::Memory => "hamon: memory\n",
         Status::Limit => "hamon: limit\n",
-        Status::UnknownVar => "hamon: range: unknown\n",
     }
 }
 

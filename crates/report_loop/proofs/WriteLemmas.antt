@@ -99,10 +99,6 @@ cut_short rules before l o p f w v n rest status.Memory i wrote = (drop n rest, 
 cut_short rules before l o p f w v n rest status.WriteFault i wrote = absurd i
 cut_short rules before l o p f w v n rest status.Words i wrote = absurd i
 cut_short rules before l o p f w v n rest status.Model i wrote = absurd i
-cut_short rules before l o p f w v n rest status.NotARun i wrote = absurd i
-cut_short rules before l o p f w v n rest status.NotACert i wrote = absurd i
-cut_short rules before l o p f w v n rest status.UnknownVar i wrote = absurd i
-cut_short rules before l o p f w v n rest status.SavedText i wrote = absurd i
 
 -- all of the rest was written: the status says what it says
 pub all_written : {K : Type 0} (rules : Rules K) (before : Streams) (l o p : Option (List ℕ)) (f w v : ℕ) (rest : List ℕ) (s : Status) →
@@ -116,10 +112,6 @@ all_written rules before l o p f w v rest status.Memory i wrote = ([], wrote_res
 all_written rules before l o p f w v rest status.WriteFault i wrote = absurd i
 all_written rules before l o p f w v rest status.Words i wrote = absurd i
 all_written rules before l o p f w v rest status.Model i wrote = absurd i
-all_written rules before l o p f w v rest status.NotARun i wrote = absurd i
-all_written rules before l o p f w v rest status.NotACert i wrote = absurd i
-all_written rules before l o p f w v rest status.UnknownVar i wrote = absurd i
-all_written rules before l o p f w v rest status.SavedText i wrote = absurd i
 
 pub write_failed : {K : Type 0} (rules : Rules K) (before : Streams) (l o p : Option (List ℕ)) (f w v : ℕ) (rest after : List ℕ) (s : Status) (x : SinkFault) → before.out_faults ≤ w →
     SaysBut rules before (streams l f o w) rest s → WriteSays o p w v rest after (Err x) → Says rules before (streams l f p v) (write_status_for x)

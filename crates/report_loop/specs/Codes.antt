@@ -1,7 +1,7 @@
 -- The exit statuses of the program.
 use Rattle.std.specs.Prelude.{ℕ}
 use Rattle.report_loop.specs.declared.status.Status.{Status}
-use Rattle.report_loop.specs.declared.status.Status.TheVariants.{Clean, Alarm, Words, Model, ReadFault, WriteFault, Memory, Overflow, Limit, NotARun, NotACert, UnknownVar, SavedText}
+use Rattle.report_loop.specs.declared.status.Status.TheVariants.{Clean, Alarm, Words, Model, ReadFault, WriteFault, Memory, Overflow, Limit}
 
 -- the exit status
 abbrev pub code_of : Status → ℕ
@@ -14,7 +14,3 @@ code_of WriteFault = 5
 code_of Memory = 6
 code_of Overflow = 7
 code_of Limit = 8
-code_of NotARun = 9
-code_of NotACert = 10
-code_of UnknownVar = 11
-code_of SavedText = 12

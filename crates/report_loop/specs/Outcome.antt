@@ -85,14 +85,10 @@ SaysBut rules before now rest status.WriteFault = ⊥
 SaysBut rules before now rest status.Memory = Wrote rules before now rest (CoversSome (HasEnded before now))
 SaysBut rules before now rest status.Words = ⊥
 SaysBut rules before now rest status.Model = ⊥
-SaysBut rules before now rest status.NotARun = ⊥
-SaysBut rules before now rest status.NotACert = ⊥
-SaysBut rules before now rest status.UnknownVar = ⊥
-SaysBut rules before now rest status.SavedText = ⊥
 
 -- what the status of a call that reports a log says. Clean, Alarm and Overflow: the log was read to its end, and its report was written.
 -- ReadFault and Limit: a report of the lines that are whole in what was read was written. WriteFault and Memory: the beginning of
--- a report of the first lines was written. No other status comes from a report
+-- a report of the first lines was written
 abbrev pub Says : {K : Type 0} → Rules K → Streams → Streams → Status → Type 0
 Says rules before now status.Clean = SaysBut rules before now [] status.Clean
 Says rules before now status.Alarm = SaysBut rules before now [] status.Alarm
@@ -103,15 +99,16 @@ Says rules before now status.WriteFault = ReportsSome rules before now × Rose b
 Says rules before now status.Memory = ReportsSome rules before now
 Says rules before now status.Words = ⊥
 Says rules before now status.Model = ⊥
-Says rules before now status.NotARun = ⊥
-Says rules before now status.NotACert = ⊥
-Says rules before now status.UnknownVar = ⊥
-Says rules before now status.SavedText = ⊥
 
 -- nothing was read or written
 pub record IsUntouched (before now : Streams) : Type 0 where
   pub log : Keeps before.log now.log
   pub out : Keeps before.out now.out
+
+-- a line, or its first bytes where a write failed
+abbrev pub TellsLine : Option (List ℕ) → Option (List ℕ) → ℕ → ℕ → List ℕ → Type 0
+TellsLine old new faults_before faults_now line =
+    (n : ℕ) × Appends old new (take n line) × (n < length line → Rose faults_before faults_now)
 
 -- what a write of pending bytes says: they are written and gone, or the first of them are
 abbrev pub WriteSays : Option (List ℕ) → Option (List ℕ) → ℕ → ℕ → List ℕ → List ℕ → Result Unit SinkFault → Type 0

@@ -1,15 +1,9 @@
 -- What the report of one log is made for.
-use Rattle.std.specs.Prelude.{ℕ, List, map, All, bytes_eq}
-use Rattle.std.specs.List.{IsDistinct}
+use Rattle.std.specs.Prelude.{ℕ, List}
 use Rattle.run_specs.specs.Automaton.{Automaton}
 use Rattle.log_specs.specs.declared.LogForm.TheVariants.{Check}
 use Rattle.log_specs.specs.declared.RunsMode.TheVariants as mode
 use Rattle.log_specs.specs.Blocks.{Task}
-
--- no two automata have one name, nor two variables of one automaton
-pub record AreNamedApart (automata : List Automaton) : Type 0 where
-  pub automata_once : IsDistinct bytes_eq (map (λ a. a.name) automata)
-  pub variables_once : All (λ a. IsDistinct bytes_eq a.variables) automata
 
 -- the log of one session is judged by the first of these automata, with so many jumps in each gap, and no run is printed
 abbrev pub check_task : List Automaton → ℕ → Task

@@ -21,21 +21,13 @@ pub enum Status {
     Overflow,
     /// As many bytes of the log were read as are read at most, and its end was not seen.
     Limit,
-    /// The run that was given is none of the log.
-    NotARun,
-    /// The certificate that was given is none of the log.
-    NotACert,
-    /// The variable that was asked for is none of the first automaton.
-    UnknownVar,
-    /// The text of a saved session is refused.
-    SavedText,
 }
 
 impl Status {
     ghost use Rattle.std.specs.Prelude.{◌≡◌};
     ghost use Rattle.report_loop.specs.Codes.{code_of};
 
-    /// The exit status of the program, 0 to 12.
+    /// The exit status of the program, 0 to 8.
     pub fn code(self) -> u8
         ensures { result ≡ code_of self }
     {
@@ -49,10 +41,6 @@ impl Status {
             Status::Memory => 6,
             Status::Overflow => 7,
             Status::Limit => 8,
-            Status::NotARun => 9,
-            Status::NotACert => 10,
-            Status::UnknownVar => 11,
-            Status::SavedText => 12,
         }
     }
 }
