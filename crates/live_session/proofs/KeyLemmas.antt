@@ -4,7 +4,7 @@ use Rattle.std.specs.Prelude.{◌==◌, All, SomeIff, IsSomeAnd, if◌then◌els
 use Rattle.std.proofs.lemmas.Bool.{cases_lt}
 use Rattle.std.proofs.lemmas.Int.{ints}
 use Rattle.std.proofs.lemmas.List.{get_or_past}
-use Rattle.std.proofs.lemmas.List.Elements.{All-nil, All-head, All-tail}
+use Rattle.std.proofs.lemmas.List.Elements.{All-nil, All-cons, All-head, All-tail}
 use Rattle.poly_specs.proofs.IntLemmas.{product_positive}
 use Rattle.poly_specs.proofs.FractionLemmas.{AtMost-trans, Below-AtMost, same-AtMost}
 use Rattle.poly_specs.proofs.LowestLemmas.{lowest-IsFraction, lowest-same, lowest-stays}
@@ -27,6 +27,7 @@ use Rattle.run_specs.specs.Outcomes.{Item, Outcome, Next, Passed, IsItem, AreExa
 use Rattle.run_specs.specs.Stages.{gap_rows}
 use Rattle.run_specs.specs.SessionHistories.{Entry, SessionHistory, IsHistory, AreLinked, states, states_left, opening_states, belief_after, last_belief, has_passed, has_overflowed}
 use Rattle.run_specs.specs.Sessions.{MonitorSession, IsMonitorSession, IsInTime, MayBegin, placed, accepted, last_time, key_for, key_wanted, wanted_for}
+use Rattle.gap_keys.specs.Views.{StateView, AreWide, states_of}
 use Rattle.live_session.specs.declared.prepared.Prepared.{Prepared}
 use Rattle.live_session.specs.Parts.{session_of}
 
@@ -94,6 +95,17 @@ module _ (a : Automaton) (wf : IsWellFormed a) (k : ℕ) where
           elim o as (λ _. Type 0) [ Next items ↦ AreLinked a k (states items) es | Passed ↦ es ≡ [] ] → All (IsState a) (belief_after (states_left o) es)
       next later (Next items) i l = later (states items) i l
       next later Passed i l = subst (λ fs. All (IsState a) (belief_after [] fs)) (sym l) (All-nil (IsState a))
+
+-- each key has as many variables as this automaton
+pub linked_widths : (a : Automaton) (k : ℕ) (belief : List State) (es : List Entry) → AreLinked a k belief es → All (λ (e : Entry). width e.key.automaton ≡ width a) es
+linked_widths a k belief [] linked = All-nil (λ (e : Entry). width e.key.automaton ≡ width a)
+linked_widths a k belief (e ∷ es) linked =
+    All-cons (λ (x : Entry). width x.key.automaton ≡ width a) e es (ap width linked.1) (next (λ b l. linked_widths a k b es l) e.outcome linked.4)
+  where
+    next : ((b : List State) → AreLinked a k b es → All (λ (x : Entry). width x.key.automaton ≡ width a) es) → (o : Outcome) →
+        elim o as (λ _. Type 0) [ Next items ↦ AreLinked a k (states items) es | Passed ↦ es ≡ [] ] → All (λ (x : Entry). width x.key.automaton ≡ width a) es
+    next later (Next items) l = later (states items) l
+    next later Passed l = subst (λ fs. All (λ (x : Entry). width x.key.automaton ≡ width a) fs) (sym l) (All-nil (λ (x : Entry). width x.key.automaton ≡ width a))
 
 last_are_states : (h : SessionHistory) → IsHistory h → All (IsState h.automaton) (last_belief h)
 last_are_states h is =
@@ -169,11 +181,11 @@ wants_some s sample is some = go (last_belief s.history) refl
 
 -- ---- by equations: from the parts of a stored session
 
-pub none_there : (xs : List State) → (length xs == 0) ≡ true → xs ≡ []
+pub none_there : (xs : List StateView) → (length xs == 0) ≡ true → states_of xs ≡ []
 none_there [] e = refl
 none_there (x ∷ xs) e = absurd (let n : length (x ∷ xs) ≡ 0 = eqb→eq (length (x ∷ xs)) 0 (rw e tt) in omega (arith, n))
 
-pub some_there : (xs : List State) → (length xs == 0) ≡ false → xs ≢ []
+pub some_there : (xs : List StateView) → (length xs == 0) ≡ false → states_of xs ≢ []
 some_there [] e n = (let b : ⊥ = cc in b)
 some_there (x ∷ xs) e n = (let b : ⊥ = cc in b)
 
@@ -183,23 +195,25 @@ placed_by h columns log g begun s sample p m variables view em ec ep =
     ep ∙ ap (λ n. record { time = sample.time; cells = placed n variables sample.cells }) em
     ∙ ap (λ cs. record { time = sample.time; cells = placed (width h.automaton) cs sample.cells }) ec ∙ ap (λ z. accepted z sample) view
 
-made : (o : Option Key) (k : Key) → SomeIff o (IsKey k) k → IsKey k → o ≡ Some k
-made None k h i = absurd (h i)
-made (Some x) k h i = ap (λ z. Some z) h.1
+made : (o : Option Key) (k : Key) (P : Type 0) → SomeIff o (IsKey k × P) k → IsKey k → P → o ≡ Some k
+made None k P h i p = absurd (h (i, p))
+made (Some x) k P h i p = ap (λ z. Some z) h.1
 
-module _ (h : SessionHistory) (columns : List ℕ) (log : List Sample) (g : Option Entry) (begun : Option Prepared) (opening belief : List State) (s : MonitorSession) (sample : Sample)
-    (view : session_of h columns log g begun ≡ s) (at_opening : opening ≡ opening_states h) (left : belief ≡ belief_after opening h.gaps) where
-  left_is : belief ≡ last_belief h
+module _ (h : SessionHistory) (columns : List ℕ) (log : List Sample) (g : Option Entry) (begun : Option Prepared) (opening belief : List StateView) (s : MonitorSession) (sample : Sample)
+    (view : session_of h columns log g begun ≡ s) (at_opening : states_of opening ≡ opening_states h) (left : states_of belief ≡ belief_after (states_of opening) h.gaps) where
+  left_is : states_of belief ≡ last_belief h
   left_is = left ∙ ap (λ b. belief_after b h.gaps) at_opening
 
-  pub key_none : belief ≡ [] → None ≡ wanted_for s sample None
+  pub key_none : states_of belief ≡ [] → None ≡ wanted_for s sample None
   key_none none = subst (λ z. None ≡ wanted_for z sample None) view (wants_none (session_of h columns log g begun) sample (last_belief h) (sym left_is ∙ none))
 
-  pub key_some : (o : Option Key) (a : Automaton) (gap : Fraction) (seen : List (Option Fraction)) → IsMonitorSession (session_of h columns log g begun) → belief ≢ [] → MayBegin s sample →
+  pub key_some : (o : Option Key) (a : Automaton) (gap : Fraction) (seen : List (Option Fraction)) → IsMonitorSession (session_of h columns log g begun) → states_of belief ≢ [] → MayBegin s sample →
       IsSample (length s.columns) sample → a ≡ h.automaton → gap ≡ lowest (difference sample.time (last_time log)) → seen ≡ (accepted s sample).cells →
-      SomeIff o (IsKey (record { automaton = a; jumps = h.jumps; belief = belief; gap = gap; seen = seen })) (record { automaton = a; jumps = h.jumps; belief = belief; gap = gap; seen = seen }) →
-      o ≡ wanted_for s sample None
-  key_some o a gap seen is some may sized ea eg es made_by = subst (λ z. o ≡ wanted_for z sample None) view (made o (key_for old sample) known kept ∙ sym wants)
+      SomeIff o (IsKey (record { automaton = a; jumps = h.jumps; belief = states_of belief; gap = gap; seen = seen }) × AreWide (width a) belief)
+      (record { automaton = a; jumps = h.jumps; belief = states_of belief; gap = gap; seen = seen }) →
+      AreWide (width h.automaton) belief → o ≡ wanted_for s sample None
+  key_some o a gap seen is some may sized ea eg es made_by wide =
+      subst (λ z. o ≡ wanted_for z sample None) view (made o (key_for old sample) (AreWide (width a) belief) known kept (subst (λ (b : Automaton). AreWide (width b) belief) (sym ea) wide) ∙ sym wants)
     where
       old : MonitorSession
       old = session_of h columns log g begun
@@ -213,8 +227,8 @@ module _ (h : SessionHistory) (columns : List ℕ) (log : List Sample) (g : Opti
       wants : key_wanted old sample (last_belief h) ≡ Some (key_for old sample)
       wants = wants_some old sample is.history (λ n. some (left_is ∙ n))
 
-      same : ◌≡◌ {A = Key} (record { automaton = a; jumps = h.jumps; belief = belief; gap = gap; seen = seen }) (key_for old sample)
+      same : ◌≡◌ {A = Key} (record { automaton = a; jumps = h.jumps; belief = states_of belief; gap = gap; seen = seen }) (key_for old sample)
       same = rw (ea, left_is, eg, cells) refl
 
-      known : SomeIff o (IsKey (key_for old sample)) (key_for old sample)
-      known = subst (λ k. SomeIff o (IsKey k) k) same made_by
+      known : SomeIff o (IsKey (key_for old sample) × AreWide (width a) belief) (key_for old sample)
+      known = subst (λ k. SomeIff o (IsKey k × AreWide (width a) belief) k) same made_by

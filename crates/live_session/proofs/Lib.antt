@@ -4,3 +4,4 @@ pub mod KeyLemmas
 pub mod VerdictLemmas
 pub mod StepLemmas
 pub mod StoredLemmas
+pub mod DrivenLemmas

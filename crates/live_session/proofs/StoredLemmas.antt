@@ -12,7 +12,7 @@ use Rattle.run_specs.specs.declared.Verdict.TheVariants.{Overflow}
 use Rattle.run_specs.specs.Automaton.{Automaton, width}
 use Rattle.run_specs.specs.WellFormed.{IsWellFormed}
 use Rattle.run_specs.specs.Logs.{Sample, IsSample}
-use Rattle.run_specs.specs.Keys.{State}
+use Rattle.gap_keys.specs.Views.{StateView, AreWide, states_of}
 use Rattle.run_specs.specs.Openings.{IsOpening}
 use Rattle.run_specs.specs.Verdicts.{IsLawful}
 use Rattle.run_specs.specs.SessionHistories.{Entry, IsEntry, SessionHistory, opening_states, verdict_at}
@@ -34,10 +34,10 @@ zero_is = record {
   few_decimals = subst (λ k. 1 ∣ k) (one-mul (10 ^ 18)) (dvd-mul_right 1 (10 ^ 18));
 }
 
-new_is : (a : Automaton) (jumps : ℕ) (columns : List ℕ) (opened : Bool) (belief : List State) (X Y : Type 0) → IsWellFormed a → jumps ≤ 6 → AreColumns (width a) columns →
-    IsOpening a (opening_of opened belief) → belief ≡ opening_states (history_of a 0 opened belief []) →
+new_is : (a : Automaton) (jumps : ℕ) (columns : List ℕ) (opened : Bool) (belief : List StateView) (X Y : Type 0) → IsWellFormed a → jumps ≤ 6 → AreColumns (width a) columns →
+    IsOpening a (opening_of opened (states_of belief)) → states_of belief ≡ opening_states (history_of a 0 opened belief []) → AreWide (width a) belief →
     IsStored (session_of (history_of a jumps opened belief []) columns [] None None) belief None X Y
-new_is a jumps columns opened belief X Y wf few are opening same = record {
+new_is a jumps columns opened belief X Y wf few are opening same wide = record {
   session = record {
     columns = are;
     log = record { each = λ k d h. absurd (omega (arith, h)); rise = tt };
@@ -55,14 +55,15 @@ new_is a jumps columns opened belief X Y wf few are opening same = record {
     phase = tt;
   };
   opening = same;
+  wide = wide;
   time = zero_is;
   ready = tt;
 }
 
-pub new_by : (a : Automaton) (jumps : ℕ) (columns : List ℕ) (opened : Bool) (belief : List State) (gaps : List Entry) (log : List Sample) (X Y : Type 0) → gaps ≡ [] → log ≡ [] → IsWellFormed a →
-    jumps ≤ 6 → AreColumns (width a) columns → IsOpening a (opening_of opened belief) → belief ≡ opening_states (history_of a 0 opened belief []) →
+pub new_by : (a : Automaton) (jumps : ℕ) (columns : List ℕ) (opened : Bool) (belief : List StateView) (gaps : List Entry) (log : List Sample) (X Y : Type 0) → gaps ≡ [] → log ≡ [] → IsWellFormed a →
+    jumps ≤ 6 → AreColumns (width a) columns → IsOpening a (opening_of opened (states_of belief)) → states_of belief ≡ opening_states (history_of a 0 opened belief []) → AreWide (width a) belief →
     IsStored (session_of (history_of a jumps opened belief gaps) columns log None None) belief None X Y
-new_by a jumps columns opened belief gaps log X Y eg el wf few are opening same = rw (eg, el) (new_is a jumps columns opened belief X Y wf few are opening same)
+new_by a jumps columns opened belief gaps log X Y eg el wf few are opening same wide = rw (eg, el) (new_is a jumps columns opened belief X Y wf few are opening same wide)
 
 -- ---- phases
 
@@ -89,43 +90,44 @@ prepared_there h columns log g f begun later b p = record { placed = p.placed; k
 
 -- ---- the calls
 
-pub wants_key : (h : SessionHistory) (columns : List ℕ) (log : List Sample) (b : Prepared) (belief : List State) (X Y : Type 0) →
+pub wants_key : (h : SessionHistory) (columns : List ℕ) (log : List Sample) (b : Prepared) (belief : List StateView) (X Y : Type 0) →
     IsStored (session_of h columns log None (Some b)) belief (Some b) X Y → b.key ≡ wanted (session_of h columns log None (Some b))
 wants_key h columns log b belief X Y is = is.ready.prepared.key
 
-pub given_stored : (h : SessionHistory) (columns : List ℕ) (log : List Sample) (g : Option Entry) (e : Entry) (begun : Option Prepared) (belief : List State) (X Y : Type 0) →
+pub given_stored : (h : SessionHistory) (columns : List ℕ) (log : List Sample) (g : Option Entry) (e : Entry) (begun : Option Prepared) (belief : List StateView) (X Y : Type 0) →
     IsStored (session_of h columns log g begun) belief begun X Y → IsEntry e → wanted (session_of h columns log g begun) ≡ Some e.key →
     IsStored (session_of h columns log (Some e) begun) belief begun X Y
 given_stored h columns log g e begun belief X Y is entry wants = record {
   session = given_keeps (session_of h columns log g begun) e is.session entry wants;
   opening = is.opening;
+  wide = is.wide;
   time = is.time;
   ready = ready_there (session_of h columns log g begun) (session_of h columns log (Some e) begun) X Y begun (prepared_there h columns log g (Some e) begun begun) is.ready;
 }
 
-pub idle_stored : (h : SessionHistory) (columns : List ℕ) (log : List Sample) (g : Option Entry) (begun : Option Prepared) (belief : List State) (X Y X' Y' : Type 0) →
+pub idle_stored : (h : SessionHistory) (columns : List ℕ) (log : List Sample) (g : Option Entry) (begun : Option Prepared) (belief : List StateView) (X Y X' Y' : Type 0) →
     IsStored (session_of h columns log g begun) belief begun X Y → IsStored (session_of h columns log None None) belief None X' Y'
 idle_stored h columns log g begun belief X Y X' Y' is =
-    record { session = idle_keeps (session_of h columns log g begun) is.session; opening = is.opening; time = is.time; ready = tt }
+    record { session = idle_keeps (session_of h columns log g begun) is.session; opening = is.opening; wide = is.wide; time = is.time; ready = tt }
 
 -- more room, where no sample is begun
-still_stored : (s : MonitorSession) (begun : Option Prepared) (belief : List State) (X Y X' Y' : Type 0) → phase_of begun ≡ Idle → IsStored s belief begun X Y →
+still_stored : (s : MonitorSession) (begun : Option Prepared) (belief : List StateView) (X Y X' Y' : Type 0) → phase_of begun ≡ Idle → IsStored s belief begun X Y →
     IsStored s belief begun X' Y'
 still_stored s begun belief X Y X' Y' idle is =
-    record { session = is.session; opening = is.opening; time = is.time; ready = rw (not_begun begun idle) tt }
+    record { session = is.session; opening = is.opening; wide = is.wide; time = is.time; ready = rw (not_begun begun idle) tt }
 
-pub still_by : (h later : SessionHistory) (columns : List ℕ) (log longer : List Sample) (g : Option Entry) (begun : Option Prepared) (belief : List State) (s : MonitorSession) (X Y X' Y' : Type 0) →
+pub still_by : (h later : SessionHistory) (columns : List ℕ) (log longer : List Sample) (g : Option Entry) (begun : Option Prepared) (belief : List StateView) (s : MonitorSession) (X Y X' Y' : Type 0) →
     IsStored (session_of h columns log g begun) belief begun X Y → session_of h columns log g begun ≡ s → s.phase ≡ Idle → later ≡ h → longer ≡ log →
     IsStored (session_of later columns longer g begun) belief begun X' Y'
 still_by h later columns log longer g begun belief s X Y X' Y' is view idle eh el =
     rw (eh, el) (still_stored (session_of h columns log g begun) begun belief X Y X' Y' (subst (λ (z : MonitorSession). z.phase ≡ Idle) (sym view) idle) is)
 
 -- the stored session with the begun sample, and that this is a step
-pub record HasBegun (s t : MonitorSession) (b : Prepared) (belief : List State) (X Y : Type 0) : Type 0 where
+pub record HasBegun (s t : MonitorSession) (b : Prepared) (belief : List StateView) (X Y : Type 0) : Type 0 where
   pub stored : IsStored t belief (Some b) X Y
   pub step : IsBegin b.sample s t
 
-pub begun_stored : (h : SessionHistory) (columns : List ℕ) (log : List Sample) (g : Option Entry) (begun : Option Prepared) (b : Prepared) (belief : List State) (X Y X' Y' : Type 0) →
+pub begun_stored : (h : SessionHistory) (columns : List ℕ) (log : List Sample) (g : Option Entry) (begun : Option Prepared) (b : Prepared) (belief : List StateView) (X Y X' Y' : Type 0) →
     IsStored (session_of h columns log g begun) belief begun X Y → phase_of begun ≡ Idle → MayBegin (session_of h columns log g begun) b.sample → IsSample (length b.sample.cells) b.sample →
     IsPrepared (session_of h columns log g begun) b → X' → Y' → HasBegun (session_of h columns log g begun) (session_of h columns log g (Some b)) b belief X' Y'
 begun_stored h columns log g (Some p) b belief X Y X' Y' is idle may sized prepared x y = absurd (let f : ⊥ = cc in f)
@@ -138,6 +140,7 @@ begun_stored h columns log None None b belief X Y X' Y' is idle may sized prepar
       stored = record {
         session = begun_keeps s t b.sample is.session sized step;
         opening = is.opening;
+        wide = is.wide;
         time = is.time;
         ready = record { prepared = prepared_there h columns log None None None (Some b) b prepared; log = x; gaps = y };
       };
@@ -155,13 +158,13 @@ last_time_push (s ∷ ss) x = next ss (last_time_push ss x)
     next (t ∷ ss) e = e
 
 -- the stored session without the sample, that this is a step, and what its verdict is
-pub record HasFinished (s t : MonitorSession) (b : Prepared) (belief : List State) (v : Verdict) (X Y : Type 0) : Type 0 where
+pub record HasFinished (s t : MonitorSession) (b : Prepared) (belief : List StateView) (v : Verdict) (X Y : Type 0) : Type 0 where
   pub stored : IsStored t belief None X Y
   pub step : IsFinish b.sample v s t
   pub lawful : IsLawful t.history.automaton t.history.jumps t.log v
   pub stays : (i : ℕ) → verdict_at s.history i ≡ Some Overflow → v ≡ Overflow
 
-module _ (a : Automaton) (k : ℕ) (opened : Bool) (belief : List State) (gaps : List Entry) (columns : List ℕ) (log : List Sample) (g : Option Entry) (b : Prepared) (X Y X' Y' : Type 0) where
+module _ (a : Automaton) (k : ℕ) (opened : Bool) (belief : List StateView) (gaps : List Entry) (columns : List ℕ) (log : List Sample) (g : Option Entry) (b : Prepared) (X Y X' Y' : Type 0) where
   abbrev before : MonitorSession
   before = session_of (history_of a k opened belief gaps) columns log g (Some b)
 
@@ -173,7 +176,7 @@ module _ (a : Automaton) (k : ℕ) (opened : Bool) (belief : List State) (gaps :
   joined_parts (Some e) = refl
 
   pub finished_stored : IsStored before belief (Some b) X Y → wanted before ≡ None → HasFinished before after b belief (verdict_with opened gaps g) X' Y'
-  finished_stored is nothing = record { stored = stored; step = step; lawful = lawful; stays = λ i e. overflow_stays before b.sample opened belief is.session refl refl (told_overflowed before.history i e) }
+  finished_stored is nothing = record { stored = stored; step = step; lawful = lawful; stays = λ i e. overflow_stays before b.sample opened (states_of belief) is.session refl refl (told_overflowed before.history i e) }
     where
       v : Verdict
       v = verdict_with opened gaps g
@@ -182,7 +185,7 @@ module _ (a : Automaton) (k : ℕ) (opened : Bool) (belief : List State) (gaps :
       placed_is = is.ready.prepared.placed
 
       tells : verdict_at (joined before.history g) (length log) ≡ Some v
-      tells = verdict_told before b.sample opened belief is.session refl nothing refl
+      tells = verdict_told before b.sample opened (states_of belief) is.session refl nothing refl
 
       step : IsFinish b.sample v before after
       step = record {
@@ -200,6 +203,7 @@ module _ (a : Automaton) (k : ℕ) (opened : Bool) (belief : List State) (gaps :
       stored = record {
         session = session;
         opening = is.opening;
+        wide = is.wide;
         time = subst IsLogNumber (sym (last_time_push log b.placed ∙ ap (λ (x : Sample). x.time) placed_is)) is.ready.prepared.time;
         ready = tt;
       }
@@ -215,11 +219,11 @@ module _ (a : Automaton) (k : ℕ) (opened : Bool) (belief : List State) (gaps :
 -- ---- by equations: from the fields before a call to those after it
 
 -- the session afterwards is stored, and the call is a step
-pub record Begins (s t : MonitorSession) (sample : Sample) (b : Prepared) (belief : List State) (X Y : Type 0) : Type 0 where
+pub record Begins (s t : MonitorSession) (sample : Sample) (b : Prepared) (belief : List StateView) (X Y : Type 0) : Type 0 where
   pub stored : IsStored t belief (Some b) X Y
   pub step : IsBegin sample s t
 
-pub begin_by : (h later : SessionHistory) (columns : List ℕ) (log longer : List Sample) (g : Option Entry) (begun : Option Prepared) (b : Prepared) (sample : Sample) (belief : List State)
+pub begin_by : (h later : SessionHistory) (columns : List ℕ) (log longer : List Sample) (g : Option Entry) (begun : Option Prepared) (b : Prepared) (sample : Sample) (belief : List StateView)
     (s : MonitorSession) (X Y X' Y' : Type 0) → IsStored (session_of h columns log g begun) belief begun X Y → session_of h columns log g begun ≡ s → s.phase ≡ Idle → MayBegin s sample →
     IsSample (length sample.cells) sample → IsPrepared s b → b.sample ≡ sample → later ≡ h → longer ≡ log → X' → Y' →
     Begins s (session_of later columns longer g (Some b)) sample b belief X' Y'
@@ -232,13 +236,13 @@ begin_by h later columns log longer g begun b sample belief s X Y X' Y' is view 
         (subst (λ (z : Sample). IsSample (length z.cells) z) (sym same) sized) (subst (λ z. IsPrepared z b) (sym view) prepared) x y
 
 -- the session afterwards is stored, and the call is a step that tells a verdict
-pub record Finishes (s t : MonitorSession) (belief : List State) (later : Option Prepared) (v : Verdict) (X Y : Type 0) : Type 0 where
+pub record Finishes (s t : MonitorSession) (belief : List StateView) (later : Option Prepared) (v : Verdict) (X Y : Type 0) : Type 0 where
   pub stored : IsStored t belief later X Y
   pub step : (sample : Sample) → s.phase ≡ Begun sample → IsFinish sample v s t
   pub lawful : IsLawful t.history.automaton t.history.jumps t.log v
   pub stays : (i : ℕ) → verdict_at s.history i ≡ Some Overflow → v ≡ Overflow
 
-pub finish_by : (a : Automaton) (k : ℕ) (opened : Bool) (belief : List State) (gaps more : List Entry) (columns : List ℕ) (log longer : List Sample) (g left : Option Entry)
+pub finish_by : (a : Automaton) (k : ℕ) (opened : Bool) (belief : List StateView) (gaps more : List Entry) (columns : List ℕ) (log longer : List Sample) (g left : Option Entry)
     (begun later : Option Prepared) (b : Prepared) (v : Verdict) (s : MonitorSession) (X Y X' Y' : Type 0) →
     IsStored (session_of (history_of a k opened belief gaps) columns log g begun) belief begun X Y → session_of (history_of a k opened belief gaps) columns log g begun ≡ s →
     begun ≡ Some b → wanted s ≡ None → more ≡ with_given gaps g → longer ≡ log ++ b.placed ∷ [] → v ≡ verdict_with opened gaps g → left ≡ None → later ≡ None →

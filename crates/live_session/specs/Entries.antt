@@ -5,12 +5,13 @@ use Rattle.std.specs.Arc.{arc_value}
 use Rattle.std.specs.declared.sync.Arc.{Arc}
 use Rattle.run_specs.specs.declared.Verdict.{Verdict}
 use Rattle.run_specs.specs.declared.Verdict.TheVariants.{Impossible, Overflow}
-use Rattle.run_specs.specs.Automaton.{Automaton}
+use Rattle.run_specs.specs.Automaton.{Automaton, width}
 use Rattle.run_specs.specs.Keys.{State, Key}
 use Rattle.run_specs.specs.Outcomes.{Next, Passed}
 use Rattle.run_specs.specs.SessionHistories.{Entry, SessionHistory, IsHistory, opening_states, verdict_of}
 use Rattle.gap_keys.specs.declared.outcomes.Outcome.{Outcome}
 use Rattle.gap_keys.specs.Answering.{outcome_of}
+use Rattle.gap_keys.specs.Views.{StateView, AreWide, states_of}
 
 -- a key beside its outcome
 abbrev pub entry_of : Key × Outcome → Entry
@@ -26,13 +27,14 @@ opening_of true belief = Some belief
 opening_of false belief = None
 
 -- a history by its parts
-abbrev pub history_of : Automaton → ℕ → Bool → List State → List Entry → SessionHistory
-history_of a jumps opened belief gaps = record { automaton = a; jumps = jumps; opening = opening_of opened belief; gaps = gaps }
+abbrev pub history_of : Automaton → ℕ → Bool → List StateView → List Entry → SessionHistory
+history_of a jumps opened belief gaps = record { automaton = a; jumps = jumps; opening = opening_of opened (states_of belief); gaps = gaps }
 
--- what is kept of a history: these are its states at the opening
-pub record KeepsHistory (belief : List State) (h : SessionHistory) : Type 0 where
+-- what is kept of a history: these are its states at the opening, with systems over the automaton's variables
+pub record KeepsHistory (belief : List StateView) (h : SessionHistory) : Type 0 where
   pub history : IsHistory h
-  pub opening : belief ≡ opening_states h
+  pub opening : states_of belief ≡ opening_states h
+  pub wide : AreWide (width h.automaton) belief
 
 -- one that is given
 abbrev pub given_of : {A : Type 0} → Option (Arc (Key × Outcome) A) → Option Entry

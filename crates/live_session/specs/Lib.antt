@@ -1,3 +1,4 @@
+pub mod Driven
 pub mod Entries
 pub mod Parts
 pub mod Refusals

@@ -1,11 +1,12 @@
 -- A session by the parts that it is stored in, and what it keeps of them.
 use Rattle.std.specs.Prelude.{◌≡◌, ℕ, List, [], Option, Some, None, IfSome}
 use Rattle.number_specs.specs.LogNumbers.{IsLogNumber}
-use Rattle.run_specs.specs.Automaton.{Automaton}
+use Rattle.run_specs.specs.Automaton.{Automaton, width}
 use Rattle.run_specs.specs.Logs.{Sample}
 use Rattle.run_specs.specs.Keys.{State}
 use Rattle.run_specs.specs.SessionHistories.{Entry, SessionHistory, opening_states}
 use Rattle.run_specs.specs.Sessions.{MonitorSession, IsMonitorSession, Phase, Idle, Begun, accepted, last_time, wanted_for}
+use Rattle.gap_keys.specs.Views.{StateView, AreWide, states_of}
 use Rattle.live_session.specs.declared.prepared.Prepared.{Prepared}
 
 -- idle, or at the begun sample
@@ -40,9 +41,11 @@ pub record IsReady (s : MonitorSession) (log_room gaps_room : Type 0) (b : Prepa
   pub log : log_room
   pub gaps : gaps_room
 
--- what a session keeps: these are its states at the opening, and what it has begun needs no more memory
-pub record IsStored (s : MonitorSession) (belief : List State) (begun : Option Prepared) (log_room gaps_room : Type 0) : Type 0 where
+-- what a session keeps: these are its states at the opening, with systems over the automaton's variables, and what it has begun needs
+-- no more memory
+pub record IsStored (s : MonitorSession) (belief : List StateView) (begun : Option Prepared) (log_room gaps_room : Type 0) : Type 0 where
   pub session : IsMonitorSession s
-  pub opening : belief ≡ opening_states s.history
+  pub opening : states_of belief ≡ opening_states s.history
+  pub wide : AreWide (width s.history.automaton) belief
   pub time : IsLogNumber (last_time s.log)
   pub ready : IfSome begun (IsReady s log_room gaps_room)

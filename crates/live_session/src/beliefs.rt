@@ -1,12 +1,14 @@
 //! What entries leave and tell: the states after the last one, and the verdict of one.
 
-ghost use Rattle.std.specs.Prelude.{◌≡◌, ◌<◌, IfOk};
+ghost use Rattle.std.specs.Prelude.{◌≡◌, ◌<◌, ℕ, All, IfOk, map};
 ghost use Rattle.std.specs.Option.{option_copied};
 ghost use Rattle.std.specs.Vec.{vec_len, vec_capacity};
-ghost use Rattle.run_specs.specs.SessionHistories.{states, belief_after};
+ghost use Rattle.run_specs.specs.Automaton.{width};
+ghost use Rattle.run_specs.specs.SessionHistories.{belief_after};
 ghost use Rattle.run_specs.specs.SessionHistories as histories;
 ghost use Rattle.run_specs.specs.Outcomes as outcomes;
-ghost use Rattle.gap_keys.specs.Answering.{outcome_of};
+ghost use Rattle.gap_keys.specs.Answering.{outcome_of, IsOutcomeWide};
+ghost use Rattle.gap_keys.specs.Views.{AreWide, states_of, items_of, state_view};
 ghost use Rattle.live_session.specs.Entries.{entries_of, given_of, with_given};
 ghost use Rattle.live_session.specs.Entries as entries;
 
@@ -19,7 +21,7 @@ use succ_memo::Held;
 
 /// The states of items.
 fn item_states(alloc: Global, items: &[Item]) -> Result<Vec<State>, AllocError>
-    ensures { IfOk result (λ v. v.items ≡ states items.now) }
+    ensures { IfOk result (λ v. v.items ≡ map state_view items.now) }
 {
     let mut copies = Vec::with_capacity(alloc, items.len())?;
     for item in items {
@@ -30,13 +32,16 @@ fn item_states(alloc: Global, items: &[Item]) -> Result<Vec<State>, AllocError>
 
 /// The states that an outcome leaves.
 fn states_left(alloc: Global, outcome: &Outcome) -> Result<Belief, AllocError>
-    ensures { IfOk result (λ b. b ≡ histories.states_left (outcome_of outcome.now)) }
+    ensures states { IfOk result (λ b. states_of b ≡ histories.states_left (outcome_of outcome.now)) }
+    ensures wide { IfOk result (λ b. (m : ℕ) → IsOutcomeWide m outcome.now → AreWide m b) }
 {
-    let states = match outcome {
-        Outcome::Next(next) => item_states(alloc, next.items())?,
-        Outcome::Overflow => Vec::new(alloc),
-    };
-    Ok(Belief::new(states))
+    match outcome {
+        Outcome::Next(next) => {
+            let states = item_states(alloc, next.items())?;
+            Ok(Belief::new(states))
+        }
+        Outcome::Overflow => Ok(Belief::new(Vec::new(alloc))),
+    }
 }
 
 /// The states after the last entry; those at the opening before the first.
@@ -45,11 +50,18 @@ pub(crate) fn last_belief(
     opening: &Belief,
     gaps: &[Arc<Held<GapRelation>>],
 ) -> Result<Belief, AllocError>
-    ensures { IfOk result (λ b. b ≡ belief_after opening.now (entries_of gaps.now)) }
+    ensures states { IfOk result (λ b. states_of b ≡ belief_after (states_of opening.now) (entries_of gaps.now)) }
+    ensures wide { IfOk result (λ b. (m : ℕ) → AreWide m opening.now → All (λ e. width e.key.automaton ≡ m) (entries_of gaps.now) → AreWide m b) }
 {
     match gaps.last() {
-        None => opening.copy(alloc),
-        Some(entry) => states_left(alloc, entry.val()),
+        None => {
+            let same = opening.copy(alloc)?;
+            Ok(same)
+        }
+        Some(entry) => {
+            let left = states_left(alloc, entry.val())?;
+            Ok(left)
+        }
     }
 }
 
@@ -65,7 +77,7 @@ pub(crate) fn last_passed(gaps: &[Arc<Held<GapRelation>>]) -> bool
 
 /// Whether an item is marked.
 fn some_marked(items: &[Item]) -> bool
-    ensures { result ≡ histories.some_marked items.now }
+    ensures { result ≡ histories.some_marked (items_of items.now) }
 {
     for item in items {
         if item.state().seen_unsafe() {
@@ -77,7 +89,7 @@ fn some_marked(items: &[Item]) -> bool
 
 /// The verdict of items.
 fn verdict_of_items(items: &[Item]) -> Verdict
-    ensures { result ≡ histories.verdict_of (outcomes.Next items.now) }
+    ensures { result ≡ histories.verdict_of (outcomes.Next (items_of items.now)) }
 {
     if items.is_empty() {
         Verdict::Impossible

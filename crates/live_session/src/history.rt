@@ -2,7 +2,9 @@
 
 ghost use Rattle.std.specs.Prelude.{◌≡◌, is_some};
 ghost use Rattle.std.specs.Arc.{arc_value};
+ghost use Rattle.run_specs.specs.Automaton.{width};
 ghost use Rattle.run_specs.specs.SessionHistories.{IsHistory, opening_states};
+ghost use Rattle.gap_keys.specs.Views.{AreWide, states_of};
 ghost use Rattle.live_session.specs.Entries.{entries_of};
 
 use crate::relation::GapRelation;
@@ -63,9 +65,11 @@ impl<'a> History<'a> {
         self.opened
     }
 
-    /// The states at the opening; none where they are not known.
+    /// The states at the opening; none where they are not known. Their systems are over the automaton's
+    /// variables.
     pub fn opening(&self) -> &'a Belief
-        ensures value { result.now ≡ opening_states self.now }
+        ensures value { states_of result.now ≡ opening_states self.now }
+        ensures wide { AreWide (width self.now.automaton) result.now }
         ensures kept { IsHistory self.now }
     {
         self.opening

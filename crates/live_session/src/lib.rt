@@ -6,6 +6,7 @@
 #![tactic(auto)]
 
 mod beliefs;
+mod crossing;
 mod history;
 mod placing;
 mod prepared;

@@ -14,6 +14,7 @@ ghost use Rattle.run_specs.specs.SessionHistories.{opening_states, verdict_at};
 ghost use Rattle.run_specs.specs.Sessions.{IsMonitorSession, AreColumns, Idle, Begun, MayBegin, accepted, wanted_for, wanted};
 ghost use Rattle.run_specs.specs.Verdicts.{IsLawful};
 ghost use Rattle.run_specs.specs.Worlds.{IsBegin, IsFinish};
+ghost use Rattle.gap_keys.specs.Views.{AreWide, states_of};
 ghost use Rattle.live_session.specs.Entries.{entry_of, opening_of, history_of};
 ghost use Rattle.live_session.specs.Parts.{new_session, IsPrepared};
 ghost use Rattle.live_session.specs.Refusals.{IsRefused};
@@ -85,8 +86,9 @@ fn reserve_one(
 
 /// The states at the opening, and whether they are known: forming them did not pass 128 bits.
 fn opened(alloc: Global, a: &Automaton) -> Result<(bool, Belief), AllocError>
-    ensures opening { IfOk result (λ r. IsOpening a.now (opening_of r.0 r.1)) }
-    ensures states { IfOk result (λ r. r.1 ≡ opening_states (history_of a.now 0 r.0 r.1 [])) }
+    ensures opening { IfOk result (λ r. IsOpening a.now (opening_of r.0 (states_of r.1))) }
+    ensures states { IfOk result (λ r. states_of r.1 ≡ opening_states (history_of a.now 0 r.0 r.1 [])) }
+    ensures wide { IfOk result (λ r. AreWide (width a.now) r.1) }
 {
     match opening(alloc, a) {
         Ok(belief) => Ok((true, belief)),

@@ -1,14 +1,22 @@
-use Rattle.std.proofs.Common.{◌≡◌, IfOk, ◌∙◌, ap, subst}
+use Rattle.std.proofs.Common.{◌≡◌, ◌∙◌, ap, subst, sym}
 use Rattle.std.specs.Arc.{arc_value}
-use Rattle.run_specs.specs.SessionHistories.{states_left, belief_after}
-use Rattle.gap_keys.specs.Answering.{outcome_of}
-use Rattle.live_session.specs.Entries.{entries_of}
-use Rattle.live_session.proofs.LastLemmas.{belief_at}
+use Rattle.run_specs.specs.Automaton.{width}
+use Rattle.run_specs.specs.SessionHistories.{Entry, states_left}
+use Rattle.gap_keys.specs.Answering.{outcome_of, IsAnswer, IsOutcomeWide}
+use Rattle.gap_keys.specs.Views.{states_of}
+use Rattle.live_session.proofs.LastLemmas.{belief_at, all_at}
 use Rattle.live_session.proofs.beliefs.last_belief.Goals as goal
 
-pub returns-in-Some : goal.returns-in-Some
-returns-in-Some c =
+pub returns-in_ok-left-in-Some-clause-states : goal.returns-in_ok-left-in-Some-clause-states
+returns-in_ok-left-in-Some-clause-states c =
     let f : c.val.result.now ≡ (arc_value c.in-Some.entry.now).1 = cc in
-    let e : states_left (outcome_of c.val.result.now) ≡ belief_after c.args.opening.now (entries_of c.args.gaps.now) =
-    ap (λ o. states_left (outcome_of o)) f ∙ belief_at c.args.opening.now c.args.gaps.now c.in-Some.entry.now c.in-Some.ensures.value in
-    subst (λ x. IfOk c.states_left.result (λ b. b ≡ x)) e c.states_left.ensures
+    c.in_ok-left-in-Some.ensures.states ∙ ap (λ o. states_left (outcome_of o)) f
+    ∙ belief_at (states_of c.args.opening.now) c.args.gaps.now c.in-Some.entry.now c.in-Some.ensures.value
+
+pub returns-in_ok-left-in-Some-clause-wide : goal.returns-in_ok-left-in-Some-clause-wide
+returns-in_ok-left-in-Some-clause-wide c m opening all =
+    let held = arc_value c.in-Some.entry.now in
+    let f : c.val.result.now ≡ held.1 = cc in
+    let answer = subst (λ p. IsAnswer p.0 p.1) c.deref.ensures c.val.ensures.holds in
+    let same : width held.0.automaton ≡ m = all_at (λ (e : Entry). width e.key.automaton ≡ m) c.args.gaps.now c.in-Some.entry.now c.in-Some.ensures.value all in
+    c.in_ok-left-in-Some.ensures.wide m (subst (IsOutcomeWide m) (sym f) (subst (λ n. IsOutcomeWide n held.1) same answer.wide))
