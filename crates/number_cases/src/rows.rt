@@ -81,7 +81,7 @@ fn cut(alloc: Global, given: &Row, width: usize) -> Result<String, Missing> {
 
 fn copied(alloc: Global, given: &Row) -> Result<String, Missing> {
     let copy = given.copy();
-    if Row::same(&copy, given) && copy == *given {
+    if copy == *given {
         writing::row(alloc, &copy)
     } else {
         Err(Missing::Form)
