@@ -1,6 +1,6 @@
 -- How a header is judged.
-use Rattle.std.proofs.Common.{◌≡◌, ℕ, List, [], ◌∷◌, Bool, true, false, not, Option, Some, None, Ok, Err, refl, sym, ap, ◌∙◌, subst}
-use Rattle.std.specs.Prelude.{if◌then◌else◌, nat_le, length, IfSome, IfNone}
+use Rattle.std.proofs.Common.{◌≡◌, ℕ, List, [], Bool, true, false, not, Option, Some, None, Ok, refl, sym, ap, ◌∙◌, subst}
+use Rattle.std.specs.Prelude.{if◌then◌else◌, nat_le, length, IfNone}
 use Rattle.run_specs.specs.Automaton.{Automaton}
 use Rattle.run_specs.specs.Keys.{State}
 use Rattle.run_specs.specs.declared.Verdict.{Verdict}
@@ -10,7 +10,7 @@ use Rattle.log_specs.specs.LogSessions.{LogState, Judgement, refused, opened, ar
 use Rattle.log_specs.specs.Blocks.{Task}
 use Rattle.live_session.specs.Parts.{new_session}
 use Rattle.log_session.specs.Progress.{Progress, IsTaskOf}
-use Rattle.log_session.specs.Parts.{log_session_of, state_of, progress_of, IsOpen, IsKept}
+use Rattle.log_session.specs.Parts.{log_session_of, state_of, progress_of, IsKept}
 use Rattle.log_session.specs.Columns.{AreNumbersOf}
 use Rattle.log_session.specs.Told.{Tells}
 use Rattle.log_session.proofs.ToldLemmas.{fresh, told_as, opening_told}

@@ -1,7 +1,6 @@
 pub mod ColumnLemmas
 pub mod CellLemmas
 pub mod TimeLemmas
-pub mod ReplyLemmas
 pub mod ToldLemmas
 pub mod HeaderLemmas
 pub mod SampleLemmas

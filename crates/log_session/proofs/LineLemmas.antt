@@ -1,5 +1,5 @@
 -- How a line is judged.
-use Rattle.std.proofs.Common.{◌≡◌, ℕ, ◌<◌, List, [], ◌∷◌, length, Bool, true, false, Result, Ok, Err, refl, sym, ap, ◌∙◌, subst, arith}
+use Rattle.std.proofs.Common.{◌≡◌, ℕ, ◌<◌, List, [], ◌∷◌, length, Bool, true, false, Result, Err, refl, ap, ◌∙◌, arith}
 use Rattle.std.specs.Prelude.{if◌then◌else◌}
 use Rattle.std.proofs.lemmas.Bool.{lt-ltb}
 use Rattle.run_specs.specs.Automaton.{Automaton}
@@ -9,7 +9,7 @@ use Rattle.log_specs.specs.declared.Refusal.{Refusal}
 use Rattle.log_specs.specs.declared.Refusal.TheVariants as why
 use Rattle.log_specs.specs.Fields.{is_text, fields_of, read_by, is_long}
 use Rattle.log_specs.specs.LogRows.{time_and_cells, header_of, read_header, read_cells}
-use Rattle.log_specs.specs.LogSessions.{LogState, Judgement, passed_over, refused, judge_header, judge_cells, judge}
+use Rattle.log_specs.specs.LogSessions.{LogState, passed_over, refused, judge_header, judge_cells, judge}
 use Rattle.log_specs.specs.Blocks.{Task}
 use Rattle.log_specs.specs.LogReports.{judgement}
 use Rattle.log_session.specs.Progress.{Progress, IsTaskOf, AddsLine}

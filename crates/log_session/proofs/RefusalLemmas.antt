@@ -1,5 +1,5 @@
 -- A sample that is refused, and a line that is read.
-use Rattle.std.proofs.Common.{◌≡◌, ℕ, List, ◌++◌, Bool, Option, Some, None, Result, Ok, Err, refl, sym, ap, ◌∙◌, subst}
+use Rattle.std.proofs.Common.{◌≡◌, ℕ, List, Bool, Option, Some, Result, Ok, Err, refl, sym, ap, ◌∙◌, subst}
 use Rattle.std.specs.Prelude.{IfOk, OnErr}
 use Rattle.run_specs.specs.Automaton.{Automaton}
 use Rattle.run_specs.specs.Logs.{Sample}

@@ -1,5 +1,5 @@
 -- How a sample of the open session is judged.
-use Rattle.std.proofs.Common.{◌≡◌, ◌≢◌, ℕ, ◌+◌, ◌<◌, ◌≤◌, List, [], ◌∷◌, ◌++◌, map, length, Bool, true, false, ◌||◌, not, ◌==◌, Option, Some, None, Ok, Err, refl, sym, ap, ◌∙◌, subst, arith, bytes_eq}
+use Rattle.std.proofs.Common.{◌≡◌, ◌≢◌, ℕ, ◌+◌, ◌≤◌, List, [], ◌∷◌, ◌++◌, length, Bool, true, false, ◌||◌, not, ◌==◌, Option, Some, Ok, refl, sym, ap, ◌∙◌, subst, bytes_eq}
 use Rattle.std.specs.Prelude.{if◌then◌else◌, nat_le, IfSome, codes, decimal}
 use Rattle.std.specs.List.{IsDistinct}
 use Rattle.std.proofs.lemmas.Bool.{eq-eqb, ne_eqb, le-leb, lt-leb}
@@ -9,7 +9,7 @@ use Rattle.run_specs.specs.Logs.{Sample}
 use Rattle.run_specs.specs.declared.Verdict.{Verdict}
 use Rattle.run_specs.specs.declared.Verdict.TheVariants.{Overflow}
 use Rattle.run_specs.specs.SessionHistories.{verdict_at}
-use Rattle.run_specs.specs.Sessions.{MonitorSession, IsMonitorSession, AreColumns, IsInTime, MayBegin, accepted, placed}
+use Rattle.run_specs.specs.Sessions.{MonitorSession, IsMonitorSession, AreColumns, IsInTime, MayBegin, accepted}
 use Rattle.run_specs.specs.Verdicts.{IsLawful}
 use Rattle.log_specs.specs.declared.LogForm.{LogForm}
 use Rattle.log_specs.specs.declared.LogForm.TheVariants.{Check}
@@ -21,7 +21,8 @@ use Rattle.log_specs.specs.LogSessions as sessions
 use Rattle.log_specs.specs.Blocks.{Task, is_alarm, wants_run, IsRunPart, IsAnswered, subject, verdict_word}
 use Rattle.log_session.specs.Progress.{Progress, IsTaskOf, is_overflow, progress_after}
 use Rattle.log_session.specs.Parts.{name_at, log_session_of, state_of, progress_of, IsOpen, IsKept}
-use Rattle.log_session.specs.Replies.{IsReplied}
+use Rattle.live_session.specs.Driven.{IsDriven}
+use Rattle.live_session.proofs.DrivenLemmas.{driven_log, driven_columns, driven_automaton}
 use Rattle.log_session.specs.Told.{Tells, cells_in}
 use Rattle.log_session.proofs.CellLemmas.{placed_under}
 use Rattle.log_session.proofs.TimeLemmas.{follows, never_follows}
@@ -97,16 +98,16 @@ module _ (task : Task) (a : Automaton) (k : ℕ) (b x y : Bool) (s t : MonitorSe
   abbrev new : Progress
   new = progress_of a k b (Some t) (Some v) (x || is_alarm v) (y || is_overflow v)
 
-  stays_so : IsOpen a k b last s → IsReplied s t sample v → last ≡ Some Overflow → v ≡ Overflow
-  stays_so opened replied e =
+  stays_so : IsOpen a k b last s → IsDriven s t sample v → last ≡ Some Overflow → v ≡ Overflow
+  stays_so opened driven e =
       let told : (i : ℕ) × (verdict_at s.history i ≡ Some Overflow) = subst (λ l. IfSome l (λ w. (i : ℕ) × (verdict_at s.history i ≡ Some w))) e opened.told in
-      replied.stays told.0 told.1
+      driven.stays told.0 told.1
 
-  answered : IsTaskOf task old → IsOpen a k b last s → IsReplied s t sample v → (number : ℕ) →
+  answered : IsTaskOf task old → IsOpen a k b last s → IsDriven s t sample v → (number : ℕ) →
       IsAnswered task last number (log_session_of s) (accepted s sample) v (decimal number ++ codes "," ++ verdict_word v ++ codes "\n")
-  answered is opened replied number = record {
-    lawful = subst (λ j. IsLawful s.history.automaton j (s.log ++ accepted s sample ∷ []) v) (opened.jumps ∙ sym is.jumps) replied.lawful;
-    stays = stays_so opened replied;
+  answered is opened driven number = record {
+    lawful = subst (λ j. IsLawful s.history.automaton j (s.log ++ accepted s sample ∷ []) v) (opened.jumps ∙ sym is.jumps) driven.lawful;
+    stays = stays_so opened driven;
     run_part = [];
     is_run_part = subst (λ w. IsRunPart s.history.automaton task.jumps (s.log ++ accepted s sample ∷ []) w []) (sym (no_run task.runs last v is.runs)) refl;
     bytes = sym (append-nil (decimal number ++ subject task.form [] ++ verdict_word v ++ codes "\n")
@@ -116,42 +117,42 @@ module _ (task : Task) (a : Automaton) (k : ℕ) (b x y : Bool) (s t : MonitorSe
   longer : LogSession
   longer = record (log_session_of s) { samples = s.log ++ accepted s sample ∷ [] }
 
-  session_after : IsReplied s t sample v → log_session_of t ≡ longer
+  session_after : IsDriven s t sample v → log_session_of t ≡ longer
   unfolding longer
-  session_after replied =
-      let log = replied.log in
-      let columns = replied.columns in
-      let automaton = replied.automaton in
+  session_after driven =
+      let log = driven_log s t sample v driven in
+      let columns = driven_columns s t sample v driven in
+      let automaton = driven_automaton s t sample v driven in
       cc (log, columns, automaton)
 
-  next_is : IsOpen a k b last s → IsReplied s t sample v → new ≡ progress_after old (sessions.accepted (log_session_of s) (accepted s sample)) (v ∷ [])
+  next_is : IsOpen a k b last s → IsDriven s t sample v → new ≡ progress_after old (sessions.accepted (log_session_of s) (accepted s sample)) (v ∷ [])
   unfolding longer
-  next_is opened replied =
-      let session = session_after replied in
-      let count : length t.log ≡ length s.log + 1 = ap length replied.log ∙ length_push s.log (accepted s sample) in
+  next_is opened driven =
+      let session = session_after driven in
+      let count : length t.log ≡ length s.log + 1 = ap length (driven_log s t sample v driven) ∙ length_push s.log (accepted s sample) in
       let begun = opened.begun in
       let alarm = or_false (is_alarm v) in
       let overflow = or_false (is_overflow v) in
       cc (session, count, begun, alarm, overflow)
 
-  pub sample_told : IsTaskOf task old → IsOpen a k b last s → IsReplied s t sample v → (number : ℕ) (before after : List ℕ) →
+  pub sample_told : IsTaskOf task old → IsOpen a k b last s → IsDriven s t sample v → (number : ℕ) (before after : List ℕ) →
       after ≡ before ++ (decimal number ++ codes "," ++ verdict_word v ++ codes "\n") →
       Tells task old new number (sessions.accepted (log_session_of s) (accepted s sample)) before after
-  sample_told is opened replied number before after grown = record {
+  sample_told is opened driven number before after grown = record {
     block = decimal number ++ codes "," ++ verdict_word v ++ codes "\n";
     replies = v ∷ [];
     grown = grown;
-    is_block = (v, answered is opened replied number, refl);
-    next = next_is opened replied;
+    is_block = (v, answered is opened driven number, refl);
+    next = next_is opened driven;
   }
 
 -- an accepted sample is told by its reply
 pub reply_told : (task : Task) (a : Automaton) (k : ℕ) (b x y alarm overflow : Bool) (session : Option MonitorSession) (s t : MonitorSession) (sample : Sample) (last : Option Verdict) (v : Verdict)
     (p : Progress) (number : ℕ) (before after : List ℕ) →
-    progress_of a k b session last x y ≡ p → session ≡ Some s → IsKept a k b session last → IsMonitorSession s → IsReplied s t sample v →
+    progress_of a k b session last x y ≡ p → session ≡ Some s → IsKept a k b session last → IsMonitorSession s → IsDriven s t sample v →
     alarm ≡ is_alarm v → overflow ≡ is_overflow v → after ≡ before ++ (decimal number ++ codes "," ++ verdict_word v ++ codes "\n") → IsTaskOf task p →
     Tells task p (progress_of a k b (Some t) (Some v) (x || alarm) (y || overflow)) number (judge_cells p.known.state (Ok (cells_in sample))) before after
-reply_told task a k b x y alarm overflow session s t sample last v p number before after view there kept monitor replied e f grown is =
+reply_told task a k b x y alarm overflow session s t sample last v p number before after view there kept monitor driven e f grown is =
     let same : progress_of a k b (Some s) last x y ≡ p = sym (ap (λ o. progress_of a k b o last x y) there) ∙ view in
     let opened : IsOpen a k b last s = subst (λ o. IfSome o (IsOpen a k b last)) there kept.opened in
     let distinct : IsDistinct bytes_eq s.history.automaton.variables = subst (λ (z : Automaton). IsDistinct bytes_eq z.variables) (sym opened.automaton) kept.distinct in
@@ -161,5 +162,5 @@ reply_told task a k b x y alarm overflow session s t sample last v p number befo
     (subst (λ (q : Progress). Tells task (progress_of a k b (Some s) last x y) q number (judge_cells (state_of b (Some s)) (Ok (cells_in sample))) before after) flags
     (told_as task (progress_of a k b (Some s) last x y) (progress_of a k b (Some t) (Some v) (x || is_alarm v) (y || is_overflow v)) number
     (judge_cells (state_of b (Some s)) (Ok (cells_in sample))) (sessions.accepted (log_session_of s) (accepted s sample)) before after
-    (sample_accepted b s sample monitor.columns distinct replied.may_begin)
-    (sample_told task a k b x y s t sample last v (subst (IsTaskOf task) (sym same) is) opened replied number before after grown)))
+    (sample_accepted b s sample monitor.columns distinct driven.may_begin)
+    (sample_told task a k b x y s t sample last v (subst (IsTaskOf task) (sym same) is) opened driven number before after grown)))

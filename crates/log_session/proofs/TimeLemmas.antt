@@ -1,7 +1,7 @@
 -- A time may follow the samples exactly where it is in time.
 use Rattle.std.proofs.Common.{◌≡◌, inl, inr, List, [], ◌∷◌, Bool, true, false, not, T, refl, sym, ap, subst}
 use Rattle.std.proofs.lemmas.Bool.{false_from_ne_true}
-use Rattle.poly_specs.specs.Fractions.{Fraction, AtMost, Below, zero_fraction}
+use Rattle.poly_specs.specs.Fractions.{Fraction, Below, zero_fraction}
 use Rattle.poly_specs.proofs.FractionLemmas.{either, Below-not}
 use Rattle.run_specs.specs.Logs.{Sample}
 use Rattle.run_specs.specs.Sessions.{IsInTime}

@@ -2,5 +2,4 @@ pub mod Progress
 pub mod Parts
 pub mod Columns
 pub mod Refusals
-pub mod Replies
 pub mod Told

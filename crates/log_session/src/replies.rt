@@ -1,13 +1,13 @@
 //! The reply of a session to a sample, with the entry of its gap made by a step.
 
-ghost use Rattle.std.specs.Prelude.{◌≡◌, ℕ, All, IfSome, IfOk, IfErr, OnOk, OnErr};
+ghost use Rattle.std.specs.Prelude.{◌≡◌, All, None, IfSome, IfOk, IfErr, OnOk, OnErr};
 ghost use Rattle.number_specs.specs.LogNumbers.{IsLogNumber};
 ghost use Rattle.run_specs.specs.Logs as logs;
 ghost use Rattle.run_specs.specs.Sessions.{IsMonitorSession, Idle, Begun};
 ghost use Rattle.log_specs.specs.Blocks as blocks;
+ghost use Rattle.live_session.specs.Driven.{IsDriven, IsGiven};
 ghost use Rattle.live_session.specs.Refusals.{IsRefused};
 ghost use Rattle.log_session.specs.Progress as progress;
-ghost use Rattle.log_session.specs.Replies.{IsReplied, IsGiven};
 
 use gap_keys::{Key, Outcome};
 use lha_model::Sample;
@@ -46,11 +46,14 @@ fn give_wanted(
     session: &mut Session,
     alloc: Global,
 ) -> Result<(), AllocError>
-    requires { (sample : logs.Sample) × (session.old.phase ≡ Begun sample) }
+    requires begun { (sample : logs.Sample) × (session.old.phase ≡ Begun sample) }
+    requires nothing_given { session.old.given ≡ None }
     ensures ok { OnOk result (IsGiven session.old session.new) }
     ensures err { OnErr result (session.new ≡ session.old) }
 {
     if let Some(key) = session.want() {
+        // The key is within its limits, as its readers say.
+        key.jumps();
         let key = key.copy(alloc)?;
         let entry = filler.fill(alloc, key)?;
         session.give(entry);
@@ -58,7 +61,8 @@ fn give_wanted(
     Ok(())
 }
 
-/// The reply of a session to a sample, which joins its log. After an error it is as it was.
+/// The reply of a session to a sample, which joins its log, as the entry that it wants joins the
+/// history. After an error the session is as it was.
 pub(crate) fn reply(
     filler: &Filler<GapRelation, Step>,
     session: &mut Session,
@@ -68,7 +72,7 @@ pub(crate) fn reply(
     requires idle { session.old.phase ≡ Idle }
     requires time { IsLogNumber sample.now.time }
     requires cells { All (λ cell. IfSome cell IsLogNumber) sample.now.cells }
-    ensures ok { IfOk result (IsReplied session.old session.new sample.now) }
+    ensures ok { IfOk result (IsDriven session.old session.new sample.now) }
     ensures err { OnErr result (session.new ≡ session.old) }
     ensures refusal { IfErr result (IsRefused session.old sample.now) }
     ensures kept { IsMonitorSession session.old }

@@ -1,11 +1,13 @@
 use Rattle.std.proofs.Common.{◌∙◌, ap}
 use Rattle.run_specs.specs.Sessions.{MonitorSession}
-use Rattle.log_session.proofs.ReplyLemmas.{begun_at, replied_to}
+use Rattle.live_session.proofs.DrivenLemmas.{begun_at, begun_without, driven}
 use Rattle.log_session.proofs.replies.reply.Goals as goal
 
 pub give_wanted-requires : goal.give_wanted-requires
-give_wanted-requires c =
-    (c.args.sample.now, begun_at c.args.session.now c.begin.new.self c.args.sample.now c.in_ok-begin.ensures.ok)
+give_wanted-requires c = record {
+  begun = (c.args.sample.now, begun_at c.args.session.now c.begin.new.self c.args.sample.now c.in_ok-begin.ensures.ok);
+  nothing_given = begun_without c.args.session.now c.begin.new.self c.args.sample.now c.in_ok-begin.ensures.ok;
+}
 
 pub cancel-requires : goal.cancel-requires
 cancel-requires c = (
@@ -15,5 +17,5 @@ cancel-requires c = (
 
 pub returns-in-Ok-clause-ok : goal.returns-in-Ok-clause-ok
 returns-in-Ok-clause-ok c =
-    replied_to c.args.session.now c.begin.new.self c.give_wanted.new.session c.finish.new.self c.args.sample.now c.finish.result c.in_ok-begin.ensures.ok c.in-Ok.ensures.ok
+    driven c.args.session.now c.begin.new.self c.give_wanted.new.session c.finish.new.self c.args.sample.now c.finish.result c.in_ok-begin.ensures.ok c.in-Ok.ensures.ok
     c.finish.ensures.finishes c.finish.ensures.lawful c.finish.ensures.stays
