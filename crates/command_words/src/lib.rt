@@ -26,6 +26,3 @@ pub use fault::WordsFault;
 pub use log_specs::RunsMode;
 pub use options::Options;
 pub use request::{Command, Request, read_words};
-
-#[cfg(test)]
-mod tests;
