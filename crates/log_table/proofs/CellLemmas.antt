@@ -7,7 +7,7 @@ use Rattle.std.proofs.lemmas.Bool.{false_from_ne_true}
 use Rattle.poly_specs.specs.Fractions.{Fraction}
 use Rattle.run_specs.specs.Sessions.{AreColumns, placed}
 use Rattle.log_specs.specs.LogSessions.{cell_under}
-use Rattle.log_session.specs.Parts.{name_at}
+use Rattle.log_table.specs.Tables.{name_at}
 
 same_bytes : (x : List ℕ) → bytes_eq x x ≡ true
 same_bytes x = (bytes_eq-Decides x x).1 refl

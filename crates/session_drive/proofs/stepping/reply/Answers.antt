@@ -1,7 +1,7 @@
 use Rattle.std.proofs.Common.{◌∙◌, ap}
 use Rattle.run_specs.specs.Sessions.{MonitorSession}
 use Rattle.live_session.proofs.DrivenLemmas.{begun_at, begun_without, driven}
-use Rattle.log_session.proofs.replies.reply.Goals as goal
+use Rattle.session_drive.proofs.stepping.reply.Goals as goal
 
 pub give_wanted-requires : goal.give_wanted-requires
 give_wanted-requires c = record {

@@ -3,9 +3,9 @@ use Rattle.std.specs.Prelude.{All}
 use Rattle.std.proofs.lemmas.List.{take_rest}
 use Rattle.std.proofs.lemmas.List.Elements.{All-push}
 use Rattle.log_specs.specs.LogSessions.{is_among}
-use Rattle.log_session.specs.Columns.{IsNumberOf}
-use Rattle.log_session.proofs.ColumnLemmas.{unnamed, numbered, next_name, no_variable, one_more, all_named}
-use Rattle.log_session.proofs.columns.columns_of.Goals as goal
+use Rattle.log_table.specs.Columns.{IsNumberOf}
+use Rattle.log_table.proofs.ColumnLemmas.{unnamed, numbered, next_name, no_variable, one_more, all_named}
+use Rattle.log_table.proofs.columns.columns_of.Goals as goal
 
 pub returns-in_default : goal.returns-in_default
 returns-in_default c =

@@ -4,7 +4,7 @@ use Rattle.run_specs.specs.Keys.{IsKey}
 use Rattle.run_specs.specs.Sessions.{wanted}
 use Rattle.live_session.specs.Entries.{entry_of}
 use Rattle.live_session.proofs.DrivenLemmas.{one_given, nothing_given}
-use Rattle.log_session.proofs.replies.give_wanted.Goals as goal
+use Rattle.session_drive.proofs.stepping.give_wanted.Goals as goal
 
 pub returns-in_default-clause-ok : goal.returns-in_default-clause-ok
 returns-in_default-clause-ok c = nothing_given c.args.session.now c.requires.nothing_given (sym c.in_default.ensures.value)

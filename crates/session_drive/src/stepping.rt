@@ -1,14 +1,13 @@
-//! The reply of a session to a sample, with the entry of its gap made by a step.
+//! Drives samples by steps: the entry of each gap is made anew.
 
 ghost use Rattle.std.specs.Prelude.{◌≡◌, All, None, IfSome, IfOk, IfErr, OnOk, OnErr};
 ghost use Rattle.number_specs.specs.LogNumbers.{IsLogNumber};
 ghost use Rattle.run_specs.specs.Logs as logs;
 ghost use Rattle.run_specs.specs.Sessions.{IsMonitorSession, Idle, Begun};
-ghost use Rattle.log_specs.specs.Blocks as blocks;
 ghost use Rattle.live_session.specs.Driven.{IsDriven, IsGiven};
 ghost use Rattle.live_session.specs.Refusals.{IsRefused};
-ghost use Rattle.log_session.specs.Progress as progress;
 
+use crate::driver::Drive;
 use gap_keys::{Key, Outcome};
 use lha_model::Sample;
 use live_session::{GapRelation, SampleRefusal, Session, Verdict};
@@ -18,26 +17,12 @@ use succ_memo::{Fill, Filler};
 
 /// Makes the entry of a gap by a step over it.
 #[derive(Drop)]
-pub(crate) struct Step;
+struct Step;
 
 impl Fill<GapRelation> for Step {
     fn answer(&self, alloc: Global, key: &Key) -> Result<Outcome, AllocError> {
         step(alloc, key)
     }
-}
-
-/// Whether a reply is an alarm.
-pub(crate) fn is_alarm(verdict: Verdict) -> bool
-    ensures { result ≡ blocks.is_alarm verdict }
-{
-    matches!(verdict, Verdict::Alarm)
-}
-
-/// Whether a reply is an overflow.
-pub(crate) fn is_overflow(verdict: Verdict) -> bool
-    ensures { result ≡ progress.is_overflow verdict }
-{
-    matches!(verdict, Verdict::Overflow)
 }
 
 /// Gives a session the entry that it wants, if it wants one. After an error it is as it was.
@@ -63,7 +48,7 @@ fn give_wanted(
 
 /// The reply of a session to a sample, which joins its log, as the entry that it wants joins the
 /// history. After an error the session is as it was.
-pub(crate) fn reply(
+fn reply(
     filler: &Filler<GapRelation, Step>,
     session: &mut Session,
     alloc: Global,
@@ -86,5 +71,31 @@ pub(crate) fn reply(
             session.cancel();
             Err(SampleRefusal::Memory)
         }
+    }
+}
+
+/// Drives each sample by a step over its gap.
+#[derive(Drop)]
+pub struct Stepping {
+    filler: Filler<GapRelation, Step>,
+}
+
+impl Stepping {
+    /// Takes no memory.
+    pub fn new() -> Stepping {
+        Stepping {
+            filler: Filler::new(Step),
+        }
+    }
+}
+
+impl Drive for Stepping {
+    fn reply(
+        &mut self,
+        alloc: Global,
+        session: &mut Session,
+        sample: &Sample,
+    ) -> Result<Verdict, SampleRefusal> {
+        reply(&self.filler, session, alloc, sample)
     }
 }

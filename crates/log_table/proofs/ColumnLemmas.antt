@@ -11,8 +11,8 @@ use Rattle.std.proofs.lemmas.Slice.Eq.{bytes_eq-Decides}
 use Rattle.poly_specs.specs.Lists.{In}
 use Rattle.run_specs.specs.Sessions.{AreColumns}
 use Rattle.log_specs.specs.LogSessions.{is_among, are_columns}
-use Rattle.log_session.specs.Parts.{name_at}
-use Rattle.log_session.specs.Columns.{AreNumbersOf, IsNumberOf}
+use Rattle.log_table.specs.Tables.{name_at}
+use Rattle.log_table.specs.Columns.{AreNumbersOf, IsNumberOf}
 
 -- ---- one name
 

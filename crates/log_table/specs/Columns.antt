@@ -2,7 +2,7 @@
 use Rattle.std.specs.Prelude.{◌≡◌, ◌<◌, ℕ, List, map, length, true}
 use Rattle.run_specs.specs.Sessions.{AreColumns}
 use Rattle.log_specs.specs.LogSessions.{is_among, are_columns}
-use Rattle.log_session.specs.Parts.{name_at}
+use Rattle.log_table.specs.Tables.{name_at}
 
 -- the names are those of variables, none repeats, and these are their numbers
 pub record AreNumbersOf (variables names : List (List ℕ)) (columns : List ℕ) : Type 0 where

@@ -1,8 +1,8 @@
 use Rattle.std.proofs.Common.{◌≡◌, ◌<◌, map, length, take, drop}
 use Rattle.std.specs.Prelude.{All}
 use Rattle.log_specs.specs.LogSessions.{are_columns}
-use Rattle.log_session.specs.Parts.{name_at}
-use Rattle.log_session.proofs.columns.columns_of.Given as goal
+use Rattle.log_table.specs.Tables.{name_at}
+use Rattle.log_table.proofs.columns.columns_of.Given as goal
 
 abbrev pub invariant-loop-i : goal.invariant-loop-i
 invariant-loop-i l = record {

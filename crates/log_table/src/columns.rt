@@ -4,7 +4,7 @@ ghost use Rattle.std.specs.Prelude.{◌≡◌, ◌≤◌, length, IfOk, MatchOpt
 ghost use Rattle.std.specs.List.{position};
 ghost use Rattle.log_specs.specs.LogSessions as sessions;
 ghost use Rattle.log_specs.specs.LogSessions.{are_columns};
-ghost use Rattle.log_session.specs.Columns.{AreNumbersOf};
+ghost use Rattle.log_table.specs.Columns.{AreNumbersOf};
 
 use lha_model::Name;
 use std::alloc::{AllocError, Global};
