@@ -1,6 +1,7 @@
 -- The table by the parts that it is stored in, and what it keeps of them.
-use Rattle.std.specs.Prelude.{◌≡◌, ◌≤◌, ◌×◌, ℕ, List, map, length, All, Option, Some, IfSome, bytes_eq}
+use Rattle.std.specs.Prelude.{◌≡◌, ◌≤◌, ℕ, List, map, length, All, Option, Some, IfSome, bytes_eq}
 use Rattle.std.specs.List.{IsDistinct}
+use Rattle.std.specs.Map.{keys_of}
 use Rattle.run_specs.specs.declared.Verdict.{Verdict}
 use Rattle.run_specs.specs.SessionHistories.{verdict_at}
 use Rattle.run_specs.specs.Sessions.{MonitorSession, Idle}
@@ -35,16 +36,17 @@ table_of jumps entries accepted =
 
 -- an open session is idle, has so many jumps in each gap and no more samples than were accepted; its automaton's variables have distinct
 -- names, and its history tells the last reply
-pub record IsOpen (jumps accepted : ℕ) (o : Opened) : Type 0 where
+pub record IsOpen (k count : ℕ) (o : Opened) : Type 0 where
   pub idle : o.session.phase ≡ Idle
-  pub jumps : o.session.history.jumps ≡ jumps
-  pub few : length o.session.log ≤ accepted
+  pub jumps : o.session.history.jumps ≡ k
+  pub few : length o.session.log ≤ count
   pub distinct : IsDistinct bytes_eq o.session.history.automaton.variables
   pub told : IfSome o.last (λ v. (i : ℕ) × (verdict_at o.session.history i ≡ Some v))
 
 -- what a table keeps
 pub record IsKept (jumps : ℕ) (entries : List (List ℕ × Opened)) (accepted : ℕ) : Type 0 where
   pub few_jumps : jumps ≤ 6
+  pub distinct : IsDistinct bytes_eq (keys_of entries)
   pub opened : All (λ e. IsOpen jumps accepted e.1) entries
   pub few : length entries ≤ 1000
   pub limited : accepted ≤ 200000

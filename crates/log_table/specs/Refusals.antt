@@ -1,5 +1,5 @@
 -- Why a row is not taken.
-use Rattle.std.specs.Prelude.{◌≡◌, ◌≢◌, ◌⊎◌, ◌×◌, ◌≤◌, Bool, true, length, ⊤}
+use Rattle.std.specs.Prelude.{◌≡◌, ◌≢◌, ◌⊎◌, ◌≤◌, Bool, true, length, ⊤}
 use Rattle.run_specs.specs.Logs.{Sample}
 use Rattle.run_specs.specs.Sessions.{MonitorSession, IsInTime}
 use Rattle.log_specs.specs.declared.Refusal.{Refusal}

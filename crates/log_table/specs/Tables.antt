@@ -1,6 +1,5 @@
 -- The sessions of a log that are open, as the log has them.
-use Rattle.std.specs.Prelude.{◌≡◌, ◌≤◌, ◌×◌, ℕ, List, [], ◌∷◌, ◌++◌, map, length, All, Bool, Option, Some, None, IfSome, bytes_eq, slice_index_or}
-use Rattle.std.specs.List.{IsDistinct}
+use Rattle.std.specs.Prelude.{◌≡◌, ℕ, List, [], ◌∷◌, ◌++◌, Bool, true, Option, Some, slice_index_or}
 use Rattle.run_specs.specs.Automaton.{Automaton}
 use Rattle.run_specs.specs.Logs.{Sample}
 use Rattle.run_specs.specs.declared.Verdict.{Verdict}

@@ -1,6 +1,6 @@
 //! An open session.
 
-ghost use Rattle.std.specs.Prelude.{◌≡◌, ◌×◌, All, None, false, true, Some, IfSome, IfOk, IfErr, OnErr};
+ghost use Rattle.std.specs.Prelude.{◌≡◌, All, None, false, true, Some, IfSome, IfOk, IfErr, OnErr};
 ghost use Rattle.number_specs.specs.LogNumbers.{IsLogNumber};
 ghost use Rattle.run_specs.specs.Sessions.{IsMonitorSession, Idle};
 ghost use Rattle.live_session.specs.Driven.{IsDriven};
@@ -49,6 +49,8 @@ fn refused_by_limit(alloc: Global, session: &mut Session, sample: &Sample) -> No
     ensures why { IsSampleRefused true session.old sample.now result }
     ensures same { session.new ≡ session.old }
 {
+    // An idle session has no entry, as its readers say.
+    session.log();
     match session.begin(alloc, sample) {
         Ok(()) => {
             session.cancel();

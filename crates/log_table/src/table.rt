@@ -1,11 +1,11 @@
 //! The table of open sessions.
 
-ghost use Rattle.std.specs.Prelude.{◌≡◌, ◌≤◌, All, None, Option, Some, IfSome, IfOk, IfErr, OnOk, OnErr, length, bytes_eq};
+ghost use Rattle.std.specs.Prelude.{◌≡◌, ◌≤◌, All, IfSome, IfOk, IfErr, OnOk, OnErr, length, bytes_eq, nat_le};
 ghost use Rattle.std.specs.List.{IsDistinct};
 ghost use Rattle.std.specs.Option.{option_map};
 ghost use Rattle.std.specs.Arc.{arc_value};
 ghost use Rattle.number_specs.specs.LogNumbers.{IsLogNumber};
-ghost use Rattle.log_specs.specs.LogSessions.{LogSession, judge_opening, judge_sample, judge_closing, session_of};
+ghost use Rattle.log_specs.specs.LogSessions.{judge_opening, judge_sample, judge_closing, session_of};
 ghost use Rattle.log_table.specs.Tables.{state_with, empty_table, cells_in, IsOpening, IsClosing, IsAccepted};
 ghost use Rattle.log_table.specs.Refusals.{IsNotTaken};
 
@@ -28,13 +28,20 @@ const MOST_OPEN: usize = 1000;
 /// The most samples that are accepted.
 const MOST_ACCEPTED: u32 = 200_000;
 
+/// Whether no more samples are accepted, where so many were.
+fn is_full(accepted: u32) -> bool
+    ensures { result ≡ nat_le 200000 accepted }
+{
+    accepted >= MOST_ACCEPTED
+}
+
 /// The sessions of a log that are open, in the order of their openings.
 ///
 /// A contract sees them as the log has them, the last reply to each, and how many samples were accepted.
 #[derive(Drop)]
 pub struct LogTable {
     jumps: u8,
-    open: IndexMap<SessionName, OpenSession>,
+    sessions: IndexMap<SessionName, OpenSession>,
     accepted: u32,
 }
 
@@ -44,9 +51,9 @@ impl Model for LogTable {
 
     ghost Value = { Table };
 
-    ghost view = { λ t. table_of t.jumps t.open.entries t.accepted };
+    ghost view = { λ t. table_of t.jumps t.sessions.entries t.accepted };
 
-    ghost invariant = { λ t. IsKept t.jumps t.open.entries t.accepted };
+    ghost invariant = { λ t. IsKept t.jumps t.sessions.entries t.accepted };
 }
 
 impl LogTable {
@@ -57,7 +64,7 @@ impl LogTable {
     {
         LogTable {
             jumps,
-            open: IndexMap::new(alloc),
+            sessions: IndexMap::new(alloc),
             accepted: 0,
         }
     }
@@ -76,12 +83,12 @@ impl LogTable {
     ) -> Result<(), NotTaken>
         requires short { length name.now ≤ 32 }
         requires distinct { IfSome automaton (λ a. IsDistinct bytes_eq (arc_value a.now).variables) }
-        ensures ok { OnOk result (IsOpening self.old self.new name.now columns.now (option_map (λ a. arc_value a.now) automaton)) }
-        ensures refusal { IfErr result (IsNotTaken (λ begun. judge_opening (state_with begun self.old) name.now columns.now (option_map (λ a. arc_value a.now) automaton) (session_of (state_with begun self.old) name.now))) }
+        ensures ok { OnOk result (IsOpening self.old self.new name.now columns.now (option_map (λ a. arc_value a.now) automaton.entry)) }
+        ensures refusal { IfErr result (IsNotTaken (λ begun. judge_opening (state_with begun self.old) name.now columns.now (option_map (λ a. arc_value a.now) automaton.entry) (session_of (state_with begun self.old) name.now))) }
         ensures err { OnErr result (self.new ≡ self.old) }
     {
         let name = SessionName::of(alloc, name);
-        if self.open.contains_key(&name) {
+        if self.sessions.contains_key(&name) {
             return Err(NotTaken::Refused(Refusal::Again));
         }
         let Some(automaton) = automaton else {
@@ -90,12 +97,12 @@ impl LogTable {
         let Some(columns) = columns_of(alloc, automaton.vars(), columns)? else {
             return Err(NotTaken::Refused(Refusal::Column));
         };
-        if self.open.len() >= MOST_OPEN {
+        if self.sessions.len() >= MOST_OPEN {
             return Err(NotTaken::Refused(Refusal::Limit));
         }
         let automaton = Arc::try_clone(automaton)?;
         let session = Session::new(alloc, automaton, self.jumps, columns)?;
-        match self.open.insert(name, OpenSession::new(session)) {
+        match self.sessions.insert(name, OpenSession::new(session)) {
             Ok(_) => Ok(()),
             Err(_) => Err(NotTaken::Memory),
         }
@@ -112,7 +119,7 @@ impl LogTable {
         ensures refusal { IfErr result (IsNotTaken (λ begun. judge_closing name.now (session_of (state_with begun self.old) name.now))) }
         ensures err { OnErr result (self.new ≡ self.old) }
     {
-        match self.open.shift_remove(&SessionName::of(alloc, name)) {
+        match self.sessions.shift_remove(&SessionName::of(alloc, name)) {
             Some(_) => Ok(()),
             None => Err(NotTaken::Refused(Refusal::Unknown)),
         }
@@ -138,12 +145,16 @@ impl LogTable {
         ensures refusal { IfErr result (IsNotTaken (λ begun. judge_sample (state_with begun self.old) (cells_in sample.now) (session_of (state_with begun self.old) name.now))) }
         ensures err { OnErr result (self.new ≡ self.old) }
     {
-        let is_full = self.accepted >= MOST_ACCEPTED;
-        let Some(opened) = self.open.get_mut(&SessionName::of(alloc, name)) else {
+        let is_full = is_full(self.accepted);
+        let Some(opened) = self.sessions.get_mut(&SessionName::of(alloc, name)) else {
             return Err(NotTaken::Refused(Refusal::Unknown));
         };
-        let verdict = opened.reply(alloc, driver, sample, is_full)?;
-        self.accepted += 1;
-        Ok(verdict)
+        match opened.reply(alloc, driver, sample, is_full) {
+            Ok(verdict) => {
+                self.accepted += 1;
+                Ok(verdict)
+            }
+            Err(why) => Err(why),
+        }
     }
 }
