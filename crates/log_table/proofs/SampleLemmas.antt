@@ -182,6 +182,7 @@ module _ (k n : ℕ) (es : Entries) (t : Table) (view : table_of k es n ≡ t) (
       judged = λ begun.
           ap (judge_sample (state_with begun (table_of k es n)) (cells_in sample)) (found name es o there_by_name)
           ∙ accepted_so (table_of k es n) begun name o.session sample (sym limit ∙ room) monitor.columns is_open.distinct driven.may_begin;
+      named = refl;
       lawful = subst (λ j. IsLawful o.session.history.automaton j (o.session.log ++ accepted o.session sample ∷ []) v) is_open.jumps driven.lawful;
       stays = λ e. stays_so (sym (last_found name es o there_by_name) ∙ e);
       next =

@@ -58,6 +58,7 @@ pub record IsAccepted (old new : Table) (name : List ℕ) (cells : Cells) (v : V
   pub session : LogSession
   pub sample : Sample
   pub judged : (begun : Bool) → judge_sample (state_with begun old) cells (session_of (state_with begun old) name) ≡ accepted session sample
+  pub named : session.name ≡ name
   pub lawful : IsLawful session.automaton old.jumps (session.samples ++ sample ∷ []) v
   pub stays : last_of old.replied session.name ≡ Some Overflow → v ≡ Overflow
   pub next : new ≡ table_after old (accepted session sample) (v ∷ [])
