@@ -1,2 +1,5 @@
 pub mod ToldLemmas
 pub mod ReadLemmas
+pub mod LineLemmas
+pub mod HeaderLemmas
+pub mod RowLemmas

@@ -11,13 +11,14 @@ ghost use Rattle.log_specs.specs.Blocks.{Task};
 ghost use Rattle.log_specs.specs.LogRows.{read_header, read_cells, read_row};
 ghost use Rattle.std.specs.Option.{option_map};
 ghost use Rattle.log_specs.specs.declared.LogForm.TheVariants as LogForm;
-ghost use Rattle.log_specs.specs.LogSessions.{refused, automaton_of};
+ghost use Rattle.log_specs.specs.LogSessions.{refused};
 ghost use Rattle.log_reader.specs.Rows.{row_said};
 ghost use Rattle.alarm_report.specs.ReportLines.{most_bytes};
 ghost use Rattle.log_table.specs.Tables.{cells_in};
 ghost use Rattle.log_session.specs.Progress.{at_start, IsTaskOf, AddsLine};
 ghost use Rattle.log_session.specs.Told.{Tells, TellsHeader, TellsCells, TellsRow, TellsOpening, TellsClosing, TellsSample, IsToldBy, IsRowOfALine};
 
+use crate::naming::{first_of, named};
 use crate::refusals::row_refusal;
 use crate::words::{is_alarm, is_overflow, subject};
 use alarm_report::{put_line, put_refusal, reserve_line};
@@ -216,7 +217,7 @@ impl<'a> JudgedLog<'a> {
     {
         match parse_header(alloc, line) {
             Ok(names) => {
-                let automaton = self.models.first();
+                let automaton = first_of(self.models);
                 self.add_opening(alloc, number, &[], automaton, &names, blocks)
             }
             Err(refusal) => {
@@ -251,14 +252,6 @@ impl<'a> JudgedLog<'a> {
         }
     }
 
-    /// The automaton of this name.
-    fn automaton_of(&self, name: &Name) -> Option<&'a Arc<Automaton>>
-        ensures found { option_map (λ a. arc_value a.now) result ≡ automaton_of self.now.models name.now }
-        ensures distinct { IfSome result (λ a. IsDistinct bytes_eq (arc_value a.now).variables) }
-    {
-        self.models.iter().find(|a| a.name().bytes() == name.bytes())
-    }
-
     /// Judges what a row of `watch` says.
     fn add_row_of(
         &mut self,
@@ -278,7 +271,7 @@ impl<'a> JudgedLog<'a> {
                 automaton,
                 columns,
             } => {
-                let automaton = self.automaton_of(&automaton);
+                let automaton = named(self.models, &automaton);
                 self.add_opening(alloc, number, &session, automaton, &columns, blocks)
             }
             LogRow::Sample {

@@ -2,6 +2,7 @@
 #![tactic(auto)]
 
 mod judged_log;
+mod naming;
 mod refusals;
 mod words;
 
