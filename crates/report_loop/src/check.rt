@@ -5,8 +5,8 @@ ghost use Rattle.log_specs.specs.Blocks.{Task};
 ghost use Rattle.log_specs.specs.LogReports.{rules_of};
 ghost use Rattle.log_reader.specs.Reading.{HoldsNoFeed};
 ghost use Rattle.log_session.specs.Progress.{Progress, IsTaskOf};
-ghost use Rattle.model_specs.specs.Automata.{HasOneOfEachName};
 ghost use Rattle.report_loop.specs.Outcome.{Streams, Says};
+ghost use Rattle.report_loop.specs.Names.{AreNamedApart};
 ghost use Rattle.report_loop.specs.Tasks.{check_task};
 ghost use Rattle.report_loop.specs.Turns.{AddsBlock, is_line, IsReporting, TurnSays, FlushSays, LinesSay, GivesOne, status_for, status_at_end};
 
@@ -146,7 +146,7 @@ fn read_lines<L: Source, O: Sink>(
 /// Reports a log: reads its lines, judges them by the first of the automata with at most so many jumps in each gap, and writes the
 /// block of each, without the lines of runs. It returns whenever the source and the sink do.
 ///
-/// The automata have distinct names, and each has distinct variables and locations, as those of a model's text.
+/// No two automata have one name, and no two variables of one automaton, as in a model's text.
 pub fn report_log<L: Source, O: Sink>(
     alloc: Global,
     models: &[Arc<Automaton>],
@@ -155,7 +155,7 @@ pub fn report_log<L: Source, O: Sink>(
     out: &mut O,
 ) -> Status
     requires some { 1 ≤ length models.now }
-    requires names { HasOneOfEachName (map (λ a. arc_value a) models.now) }
+    requires names { AreNamedApart (map (λ a. arc_value a) models.now) }
     requires jumps { jumps ≤ 6 }
     ensures { Says (rules_of (check_task (map (λ a. arc_value a) models.now) jumps))
         (record { log = L.told log.old; log_faults = L.faults log.old; out = O.taken out.old; out_faults = O.faults out.old })
