@@ -29,12 +29,6 @@ pub struct Range {
     pub down: Option<Cap>,
 }
 
-fn either(a: bool, b: bool) -> bool
-    ensures { result ≡ (a || b) }
-{
-    a || b
-}
-
 pub fn negated(number: i128) -> i128
     requires { FitsBits number }
     ensures value { result ≡ neg_ℤ number }
@@ -60,7 +54,7 @@ fn lesser(a: &Cap, b: &Cap) -> Cap
         },
         Ordering::Equal => Cap {
             end: a.end,
-            is_open: either(a.is_open, b.is_open),
+            is_open: a.is_open | b.is_open,
         },
     }
 }

@@ -41,7 +41,7 @@ pub fn jump_system(
     jump_rows::add_state(alloc, &mut rows, state.rows(), m)?;
     jump_rows::add_relation(alloc, &mut rows, transition.rel(), m)?;
     jump_rows::add_invariant(alloc, &mut rows, target.inv(), m)?;
-    Ok(stage_rows::of_rows(2 * m + 1, rows))
+    Ok(System::of_rows(2 * m + 1, rows))
 }
 
 /// Where jumps by transition number `trans` end that start in a state.

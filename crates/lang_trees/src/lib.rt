@@ -1,7 +1,6 @@
 //! The trees of models: what a text says, statement by statement, with the lines where it says so.
 #![tactic(auto)]
 
-mod sequences;
 mod trees;
 
 pub use trees::{

@@ -4,10 +4,9 @@ ghost use Rattle.std.specs.Prelude.{◌≡◌, List, option_map};
 ghost use Rattle.lang_specs.specs.Trees as trees;
 ghost use Rattle.lang_trees.specs.Acts.{act_of};
 
-use crate::sequences::Sequence;
 use frac128::Frac;
 pub use lang_specs::{Sign, Which};
-use lha_model::Name;
+use lha_model::{Name, Sequence};
 use std::marker::Model;
 
 /// A number, or a number times a variable, taken away where `neg`.

@@ -17,3 +17,4 @@ pub use logs::{Log, Sample};
 pub use names::Name;
 pub use places::{Loc, Trans};
 pub use runs::{GapRun, Leg, Move, Run};
+pub use sequences::Sequence;

@@ -10,8 +10,9 @@ use std::marker::Model;
 
 /// A `Vec` of which a contract sees the elements alone.
 #[derive(Debug, Drop)]
-pub(crate) struct Sequence<T> {
-    pub(crate) items: Vec<T>,
+pub struct Sequence<T> {
+    /// The elements, and the room for them.
+    pub items: Vec<T>,
 }
 
 impl<T> Model for Sequence<T> {
@@ -24,7 +25,7 @@ impl<T> Model for Sequence<T> {
 
 impl<T> Sequence<T> {
     /// The elements.
-    pub(crate) fn as_slice(&self) -> &[T]
+    pub fn as_slice(&self) -> &[T]
         ensures { result.now ≡ self.now }
     {
         self.items.as_slice()

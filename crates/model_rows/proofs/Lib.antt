@@ -1,6 +1,5 @@
 mod ListLemmas
 mod FindLemmas
-mod DenLemmas
 mod TotalLemmas
 mod RowLemmas
 mod PassLemmas

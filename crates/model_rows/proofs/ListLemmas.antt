@@ -19,12 +19,6 @@ pub took : {X : Type 0} → (xs : List X) (i : ℕ) (x : X) (old items new : Lis
 took xs i x old items new h is e more =
     more ∙ ap (λ ys. ys ++ x ∷ []) e ∙ append_assoc old (take i xs) (x ∷ []) ∙ ap (λ ys. old ++ ys) (sym (next xs i x h is))
 
-pub mapped : {X Y : Type 0} → (f : X → Y) (xs : List X) (i : ℕ) (x : X) (old items new : List Y) → i < length xs → x ≡ get_or xs i x →
-    items ≡ old ++ map f (take i xs) → new ≡ items ++ f x ∷ [] → new ≡ old ++ map f (take (i + 1) xs)
-mapped f xs i x old items new h is e more =
-    more ∙ ap (λ ys. ys ++ f x ∷ []) e ∙ append_assoc old (map f (take i xs)) (f x ∷ [])
-    ∙ ap (λ ys. old ++ ys) (sym (map-append f (take i xs) (x ∷ []))) ∙ ap (λ ys. old ++ map f ys) (sym (next xs i x h is))
-
 pub gathered : {X Y : Type 0} → (f : X → List Y) (xs : List X) (i : ℕ) (x : X) (old items new : List Y) → i < length xs → x ≡ get_or xs i x →
     items ≡ old ++ flat_map f (take i xs) → new ≡ items ++ f x → new ≡ old ++ flat_map f (take (i + 1) xs)
 gathered f xs i x old items new h is e more =

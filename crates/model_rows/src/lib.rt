@@ -5,7 +5,6 @@
 
 mod acts;
 mod comparisons;
-mod denominators;
 mod faults;
 mod names;
 mod parts;

@@ -10,9 +10,8 @@ ghost use Rattle.model_specs.specs.Parts.{total_from, total_numbers_from, sums, 
 ghost use Rattle.model_rows.specs.Columns.{values_at, sums_numbers};
 
 use crate::RowFault;
-use crate::denominators::common_numerators;
 use crate::parts::Part;
-use frac128::Frac;
+use frac128::{Frac, over_common};
 use lin_row::Row;
 use smallvec::SmallVec;
 use std::alloc::{AllocError, Global};
@@ -92,8 +91,8 @@ fn row_of_sums(alloc: Global, strict: bool, totals: &[Frac]) -> Option<Row>
     requires few { length totals.now ≤ 15 }
     ensures { SomeIff result (NonePasses (common_numbers totals.now)) (divided (row_over strict (common_nums totals.now))) }
 {
-    let nums = common_numerators(alloc, totals)?;
-    Some(row_over(alloc, strict, nums.as_slice()))
+    let common = over_common(alloc, totals)?;
+    Some(row_over(alloc, strict, common.nums.as_slice()))
 }
 
 /// The row that says that the sum of the parts is at most 0, or below 0 where strict. `Passes` only where a number on the way

@@ -25,16 +25,7 @@ pub fn prune(alloc: Global, s: &System) -> Result<System, AllocError>
 {
     let width = s.width();
     let rows = thinned(alloc, width, s.rows())?;
-    Ok(of_rows(width, rows))
-}
-
-/// The system of rows that have its width.
-fn of_rows(width: usize, rows: Vec<Row>) -> System
-    requires few { width ≤ 14 }
-    requires wide { AllWide width rows.items }
-    ensures { result ≡ record { width = width; rows = rows.items } }
-{
-    System::make(width, rows).unwrap()
+    Ok(System::of_rows(width, rows))
 }
 
 /// Some of the rows, with the same points: first without those that rows before them are found to
@@ -200,7 +191,7 @@ fn do_imply(alloc: Global, width: usize, rows: Vec<Row>, row: &Row) -> Result<bo
     requires few { width ≤ 13 }
     ensures { IfOk result (λ b. IsTrue b → Entails width rows.items row.now) }
 {
-    let system = of_rows(width, rows);
+    let system = System::of_rows(width, rows);
     match plain_entails(alloc, &system, row) {
         Ok(answer) => Ok(answer),
         Err(RowFault::Passes) => Ok(false),

@@ -11,7 +11,8 @@ ghost use Rattle.run_specs.specs.Runs.{total, end_point};
 ghost use Rattle.run_specs.specs.Stages.{near_sums};
 ghost use Rattle.replay_specs.specs.RunChecks.{Answers, sums_from, length_steps, value_steps, near_steps, IsInRange, IsKeptGap};
 
-use crate::numbers::{is_at_most, is_same, kept_sum};
+use crate::numbers::{is_at_most, is_same};
+use checked_integers::kept_sum;
 use frac128::Frac;
 use lha_model::{Automaton, GapRun, Sample};
 use replay_specs::checks::Stop;

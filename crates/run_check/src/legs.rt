@@ -8,9 +8,9 @@ ghost use Rattle.run_specs.specs.Automaton.{width, location_at};
 ghost use Rattle.run_specs.specs.WellFormed.{IsLocation};
 ghost use Rattle.replay_specs.specs.RunChecks.{Answers, asks, slope_steps, leg_steps, jump_steps, IsMoveInRange};
 
-use crate::numbers::kept_difference;
 use crate::places::{location, transition};
 use crate::rows::rows_hold;
+use checked_integers::kept_difference;
 use lha_model::{Automaton, Leg, Loc, Move};
 use lin_row::Row;
 use replay_specs::checks::Stop;

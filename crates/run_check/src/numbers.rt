@@ -1,32 +1,10 @@
-//! Differences and sums of 128-bit integers, which may pass, and comparisons of fractions, which never do.
+//! Comparisons of fractions, which never pass 128 bits.
 
-ghost use Rattle.std.specs.Prelude.{◌≡◌, ◌↔◌, pos, ◌<ℤ◌, ◌+ℤ◌, ◌-ℤ◌, ◌*ℤ◌, SomeIff, IsTrue};
+ghost use Rattle.std.specs.Prelude.{◌≡◌, ◌↔◌, pos, ◌<ℤ◌, ◌*ℤ◌, IsTrue};
 ghost use Rattle.poly_specs.specs.Bits.{FitsBits};
 ghost use Rattle.poly_specs.specs.Fractions.{AtMost};
 
 use frac128::Frac;
-
-/// The difference, where it does not pass 128 bits.
-pub fn kept_difference(a: i128, b: i128) -> Option<i128>
-    ensures { SomeIff result (FitsBits (a -ℤ b)) (a -ℤ b) }
-{
-    let difference = a.checked_sub(b)?;
-    if difference == i128::MIN {
-        return None;
-    }
-    Some(difference)
-}
-
-/// The sum, where it does not pass 128 bits.
-pub fn kept_sum(a: i128, b: i128) -> Option<i128>
-    ensures { SomeIff result (FitsBits (a +ℤ b)) (a +ℤ b) }
-{
-    let sum = a.checked_add(b)?;
-    if sum == i128::MIN {
-        return None;
-    }
-    Some(sum)
-}
 
 /// Whether the first fraction is at most the second one.
 pub fn is_at_most(x: &Frac, y: &Frac) -> bool

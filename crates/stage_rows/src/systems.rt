@@ -12,5 +12,5 @@ pub fn of_rows(width: usize, rows: Vec<Row>) -> System
     requires wide { AllWide width rows.items }
     ensures { result ≡ record { width = width; rows = rows.items } }
 {
-    System::make(width, rows).unwrap()
+    System::of_rows(width, rows)
 }

@@ -42,7 +42,7 @@ pub fn leg_system(
     leg_rows::add_state(alloc, &mut rows, state.rows(), m)?;
     leg_rows::add_invariant(alloc, &mut rows, place.inv(), m)?;
     leg_rows::add_flow(alloc, &mut rows, place.flow(), m)?;
-    Ok(stage_rows::of_rows(2 * m + 2, rows))
+    Ok(System::of_rows(2 * m + 2, rows))
 }
 
 /// Where legs in location number `loc` end that start in a state.

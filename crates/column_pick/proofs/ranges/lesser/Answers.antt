@@ -1,7 +1,6 @@
-use Rattle.std.proofs.Common.{Less, Equal, Greater, subst, sym, Some}
+use Rattle.std.proofs.Common.{Less, Equal, Greater}
 use Rattle.std.proofs.lemmas.Cmp.{int_ranked}
 use Rattle.column_pick.proofs.RangeLemmas.{lesser_left, lesser_right, lesser_same}
-use Rattle.column_pick.specs.Ranges.{IsLesser}
 use Rattle.column_pick.proofs.ranges.lesser.Goals as goal
 
 pub returns-in-Less : goal.returns-in-Less
@@ -13,5 +12,4 @@ returns-in-Greater c =
 
 pub returns-in-Equal : goal.returns-in-Equal
 returns-in-Equal c =
-    subst (λ o. IsLesser (Some c.args.a.now) (Some c.args.b.now) (Some (record { end = c.args.a.now.end; is_open = o }))) (sym c.either.ensures)
-    (lesser_same c.args.a.now c.args.b.now c.see_kept.ensures.positive c.see_kept-2.ensures.positive (int_ranked _ _ Equal c.in-Equal.ensures))
+    lesser_same c.args.a.now c.args.b.now c.see_kept.ensures.positive c.see_kept-2.ensures.positive (int_ranked _ _ Equal c.in-Equal.ensures)
