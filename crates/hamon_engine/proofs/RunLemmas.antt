@@ -18,7 +18,7 @@ use Rattle.hamon_engine.specs.declared.models.NoModels.{NoModels}
 use Rattle.hamon_engine.specs.declared.models.NoModels.TheVariants.{Refused, Failed, Memory}
 use Rattle.hamon_engine.specs.Models.{AreModelsOf, LacksModels}
 use Rattle.hamon_engine.specs.Runs.{Outside, IsUndisturbed, IsComplete, Completes, HasNoModel, RunsText, RunsWords, HasCause, model_of}
-use Rattle.hamon_engine.specs.Telling.{status_of, ended_by}
+use Rattle.hamon_engine.specs.Telling.{status_of, ended_by, IsToldAlone}
 
 keeps_same : (o : Option (List ℕ)) → Keeps o o
 keeps_same None = tt
@@ -82,26 +82,13 @@ memory_first s t u f h (Some r) = (λ e. cc, told_without s t u f h status.Memor
 -- ---- a model
 
 pub says_no_words : {K : Type 0} (rules : Rules K) (before now : Streams) (x : Status) → Says rules before now x → x ≢ status.Words
-says_no_words rules before now status.Words h = absurd h
-says_no_words rules before now status.Clean h = λ w. cc
-says_no_words rules before now status.Alarm h = λ w. cc
-says_no_words rules before now status.Overflow h = λ w. cc
-says_no_words rules before now status.Model h = λ w. cc
-says_no_words rules before now status.ReadFault h = λ w. cc
-says_no_words rules before now status.WriteFault h = λ w. cc
-says_no_words rules before now status.Memory h = λ w. cc
-says_no_words rules before now status.Limit h = λ w. cc
+says_no_words rules before now x says e = let none : Says rules before now status.Words = subst (λ z. Says rules before now z) e says in absurd none
 
-pub says_no_model : {K : Type 0} (rules : Rules K) (before now : Streams) (x : Status) → Says rules before now x → x ≢ status.Model
-says_no_model rules before now status.Model h = absurd h
-says_no_model rules before now status.Clean h = λ w. cc
-says_no_model rules before now status.Alarm h = λ w. cc
-says_no_model rules before now status.Overflow h = λ w. cc
-says_no_model rules before now status.Words h = λ w. cc
-says_no_model rules before now status.ReadFault h = λ w. cc
-says_no_model rules before now status.WriteFault h = λ w. cc
-says_no_model rules before now status.Memory h = λ w. cc
-says_no_model rules before now status.Limit h = λ w. cc
+-- no text has to tell the cause of a status that comes of a log
+pub says_cause_alone : {K : Type 0} (rules : Rules K) (before now : Streams) (x : Status) → Says rules before now x → IsToldAlone x
+says_cause_alone rules before now status.Model says = says
+says_cause_alone rules before now status.SavedText says = says
+says_cause_alone rules before now _ says = tt
 
 says_text : (s n : Streams) (t u : List ℕ → Option (List ℕ)) (f h : ℕ) (x : Status) (options : Options) (automata : List Automaton) (told : Option (List ℕ)) →
     IfSome told (λ text. AreModelsOf text automata) → Says (rules_of (check_task automata options.jumps)) s n x → IfSome told (RunsText (outside s t f) (outside n u h) x options)
@@ -118,15 +105,14 @@ says_runs s n t u f h x automata r is says =
     (says_no_words (rules_of (check_task automata r.options.jumps)) s n x says, says_text s n t u f h x r.options automata (t (model_of r.command)) is says)
 
 pub says_cause : {K : Type 0} (rules : Rules K) (s n : Streams) (t u : List ℕ → Option (List ℕ)) (f h : ℕ) (x : Status) → Says rules s n x → HasCause (outside s t f) (outside n u h) x
-says_cause rules s n t u f h status.Clean says = tt
-says_cause rules s n t u f h status.Alarm says = tt
-says_cause rules s n t u f h status.Overflow says = tt
-says_cause rules s n t u f h status.Limit says = tt
+says_cause rules s n t u f h status.Clean says = says.covers.ended
+says_cause rules s n t u f h status.Alarm says = says.covers.ended
+says_cause rules s n t u f h status.Overflow says = says.covers.ended
+says_cause rules s n t u f h status.Limit says = record { read = says.read; consumed = says.consumed; most = says.covers.why }
 says_cause rules s n t u f h status.Memory says = tt
 says_cause rules s n t u f h status.ReadFault says = inl says.covers.why
 says_cause rules s n t u f h status.WriteFault says = says.1
-says_cause rules s n t u f h status.Words says = absurd says
-says_cause rules s n t u f h status.Model says = absurd says
+says_cause rules s n t u f h _ says = absurd says
 
 -- ---- want of memory in telling the cause
 
@@ -138,8 +124,7 @@ some_of rules before now status.ReadFault i = ([], covers_map rules before now [
 some_of rules before now status.Limit i = ([], covers_map rules before now [] _ _ (whole_some (HasEnded before now) (λ read. length read ≡ log_limit)) i)
 some_of rules before now status.WriteFault i = i.0
 some_of rules before now status.Memory i = i
-some_of rules before now status.Words i = absurd i
-some_of rules before now status.Model i = absurd i
+some_of rules before now _ i = absurd i
 
 memory_reports : {K : Type 0} (rules : Rules K) (before now : Outside) (x : Status) → Says rules before.streams now.streams x ⊎ HasNoModel before now x →
     Says rules before.streams now.streams status.Memory ⊎ HasNoModel before now status.Memory
@@ -185,8 +170,7 @@ complete_says rules before now status.Limit u says =
     let below = u.below says.read says.consumed in
     let full = says.covers.why in
     absurd (omega (arith, below, full))
-complete_says rules before now status.Words u says = absurd says
-complete_says rules before now status.Model u says = absurd says
+complete_says rules before now _ u says = absurd says
 
 complete_by : {K : Type 0} (rules : Rules K) (before now : Outside) (x : Status) → IsUndisturbed before now → Says rules before.streams now.streams x ⊎ HasNoModel before now x → IsComplete x
 complete_by rules before now x u (inl says) = complete_says rules before now x u says

@@ -10,7 +10,7 @@ use Rattle.command_words.specs.declared.options.Options.{Options}
 use Rattle.report_loop.specs.declared.status.Status.{Status}
 use Rattle.report_loop.specs.declared.status.Status.TheVariants as status
 use Rattle.report_loop.specs.Tasks.{check_task}
-use Rattle.report_loop.specs.Outcome.{Streams, Says, IsUntouched, log_limit}
+use Rattle.report_loop.specs.Outcome.{Streams, HasEnded, Says, IsUntouched, log_limit}
 
 -- the log, the output and the shelf, before or after a run
 pub record Outside : Type 0 where
@@ -70,14 +70,21 @@ Completes before now s (Some r) =
 
 -- ---- causes
 
--- the causes of a status, also where no bytes are told
+-- as many bytes of the log were read as are read at most
+pub record ReadsMost (before now : Streams) : Type 0 where
+  pub read : List ℕ
+  pub consumed : Consumes before.log now.log read
+  pub most : length read ≡ log_limit
+
+-- the causes of a status, also where no bytes are told. The other statuses do not come: no command gives them
 abbrev pub HasCause : Outside → Outside → Status → Type 0
 HasCause before now status.ReadFault = Rose before.streams.log_faults now.streams.log_faults ⊎ Rose before.shelf_faults now.shelf_faults
 HasCause before now status.WriteFault = Rose before.streams.out_faults now.streams.out_faults
 HasCause before now status.Words = IsUntouched before.streams now.streams
 HasCause before now status.Model = IsUntouched before.streams now.streams
-HasCause before now status.Clean = ⊤
-HasCause before now status.Alarm = ⊤
-HasCause before now status.Overflow = ⊤
-HasCause before now status.Limit = ⊤
+HasCause before now status.Clean = HasEnded before.streams now.streams
+HasCause before now status.Alarm = HasEnded before.streams now.streams
+HasCause before now status.Overflow = HasEnded before.streams now.streams
+HasCause before now status.Limit = ReadsMost before.streams now.streams
 HasCause before now status.Memory = ⊤
+HasCause before now _ = ⊥

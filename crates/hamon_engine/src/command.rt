@@ -2,8 +2,8 @@
 ghost use Rattle.std.specs.Prelude.{◌≡◌, ◌≤◌, length, map, string_bytes, Some};
 ghost use Rattle.std.specs.Arc.{arc_value};
 ghost use Rattle.log_specs.specs.LogReports.{rules_of};
-ghost use Rattle.model_specs.specs.Automata.{HasOneOfEachName};
 ghost use Rattle.report_loop.specs.Outcome.{Says};
+ghost use Rattle.report_loop.specs.Names.{AreNamedApart};
 ghost use Rattle.report_loop.specs.Tasks.{check_task};
 ghost use Rattle.command_words.specs.CommandLine.{request_of};
 ghost use Rattle.command_words.specs.Said.{said_command, said};
@@ -21,8 +21,8 @@ use std::sync::Arc;
 
 /// Checks a log against the first of some automata, and writes its report, without the lines of runs.
 ///
-/// There is at least one automaton. No two of them have one name, nor two variables or two locations of one of them, as in a
-/// model's text. It returns whenever the source and the sink do.
+/// There is at least one automaton. No two of them have one name, nor two variables of one of them, as in a model's text. It
+/// returns whenever the source and the sink do.
 pub fn check_log<L: Source, O: Sink>(
     alloc: Global,
     models: &[Arc<Automaton>],
@@ -31,7 +31,7 @@ pub fn check_log<L: Source, O: Sink>(
     out: &mut O,
 ) -> Status
     requires some { 1 ≤ length models.now }
-    requires names { HasOneOfEachName (map (λ a. arc_value a) models.now) }
+    requires names { AreNamedApart (map (λ a. arc_value a) models.now) }
     requires jumps { options.now.jumps ≤ 6 }
     ensures { Says (rules_of (check_task (map (λ a. arc_value a) models.now) options.now.jumps))
         (record { log = L.told log.old; log_faults = L.faults log.old; out = O.taken out.old; out_faults = O.faults out.old })
@@ -135,7 +135,7 @@ pub fn run<S: Shelf, L: Source, O: Sink, D: Sink>(
         (record { streams = record { log = L.told log.new; log_faults = L.faults log.new; out = O.taken out.new; out_faults = O.faults out.new }; shelf = S.text shelf.new; shelf_faults = S.faults shelf.new })
         result (request_of (map string_bytes words.now)) }
 
-    // A fault is blamed only where a count rose.
+    // Each status has its cause: a fault is blamed only where a count rose, and a status that `check` cannot give does not come.
     ensures cause { HasCause
         (record { streams = record { log = L.told log.old; log_faults = L.faults log.old; out = O.taken out.old; out_faults = O.faults out.old }; shelf = S.text shelf.old; shelf_faults = S.faults shelf.old })
         (record { streams = record { log = L.told log.new; log_faults = L.faults log.new; out = O.taken out.new; out_faults = O.faults out.new }; shelf = S.text shelf.new; shelf_faults = S.faults shelf.new })
