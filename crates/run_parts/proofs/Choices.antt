@@ -1,15 +1,15 @@
 -- Lists of numbers that agree up to a place, and picks of equal sets.
-use Rattle.std.proofs.Common.{◌≡◌, ◌⊎◌, inl, inr, ℕ, zero, suc, ◌+◌, ◌<◌, ◌≤◌, List, [], ◌∷◌, ◌++◌, length, length-append, get_or, refl, sym, ◌∙◌, ap, ap₂, subst, arith, ℤ, pos, ◌*ℤ◌, ◌<ℤ◌}
+use Rattle.std.proofs.Common.{◌≡◌, ◌⊎◌, inl, inr, ℕ, zero, suc, ◌+◌, ◌<◌, ◌≤◌, List, [], ◌∷◌, ◌++◌, length, get_or, refl, sym, ◌∙◌, ap, subst, arith, ℤ, pos, ◌*ℤ◌, ◌<ℤ◌}
 use Rattle.std.specs.List.{AllZip}
 use Rattle.std.proofs.lemmas.List.{get_or_append_left, get_or-append-add, get_or-map, map-append}
-use Rattle.poly_specs.proofs.ColumnLemmas.{coordinates, point-from_coordinates}
+use Rattle.poly_specs.proofs.ColumnLemmas.{point-from_coordinates}
 use Rattle.poly_specs.proofs.PickLemmas.{are_fractions}
 use Rattle.run_specs.proofs.FirstRunExists.{same-through}
-use Rattle.run_specs.proofs.PickedLemmas.{AllFractions, fraction_at, length-fractions}
+use Rattle.run_specs.proofs.PickedLemmas.{AllFractions, fraction_at}
 use Rattle.run_specs.proofs.PickedValues.{zip_at}
-use Rattle.poly_specs.specs.Lists.{scaled, number_at}
+use Rattle.poly_specs.specs.Lists.{scaled}
 use Rattle.poly_specs.specs.Fractions.{Fraction, IsFraction, SameFraction, fractions, zero_fraction}
-use Rattle.poly_specs.specs.Rows.{Point, over, coordinate, SamePoint}
+use Rattle.poly_specs.specs.Rows.{over, coordinate, SamePoint}
 use Rattle.poly_specs.specs.Picks.{IsNearestInteger, HasNoInteger, HasEnds, AreEnds, IsEndPick, IsPick}
 
 -- ---- picks of equal sets

@@ -1,5 +1,5 @@
 -- The numbers of a gap: what other gap runs with the same ends leave for each is what other paths leave for it.
-use Rattle.std.proofs.Common.{◌≡◌, ℕ, ◌+◌, ◌<◌, List, [], ◌∷◌, ◌++◌, length, refl, sym, ◌∙◌, ap, subst, arith, ℤ, pos, ◌+ℤ◌, ◌*ℤ◌, ◌<ℤ◌}
+use Rattle.std.proofs.Common.{◌≡◌, ℕ, ◌<◌, List, [], ◌∷◌, length, refl, sym, ◌∙◌, ap, subst, arith, ℤ, pos, ◌+ℤ◌, ◌*ℤ◌}
 use Rattle.std.proofs.lemmas.Int.{ints}
 use Rattle.run_specs.proofs.FirstRunExists.{same-through}
 use Rattle.run_specs.proofs.GapEnds.{start_holds}
@@ -9,11 +9,11 @@ use Rattle.run_specs.proofs.ScaledRuns.{last_same}
 use Rattle.run_specs.proofs.StageWidths.{start_wide}
 use Rattle.run_parts.proofs.Choices.{Chosen, at_place, pick_of_equal}
 use Rattle.run_parts.proofs.PathNumbers.{parts_join, same_one}
-use Rattle.run_parts.proofs.PathParts.{PathTakes, IsOwn}
+use Rattle.run_parts.proofs.PathParts.{PathTakes}
 use Rattle.run_parts.proofs.PathPicks.{path_picked}
 use Rattle.poly_specs.specs.Lists.{In}
-use Rattle.poly_specs.specs.Fractions.{Fraction, IsFraction, SameFraction, fractions}
-use Rattle.poly_specs.specs.Rows.{Row, over, SamePoint, AllHold, AllWide}
+use Rattle.poly_specs.specs.Fractions.{Fraction, IsFraction, fractions}
+use Rattle.poly_specs.specs.Rows.{Row, SamePoint, AllHold, AllWide}
 use Rattle.poly_specs.specs.Picks.{IsPick}
 use Rattle.poly_specs.specs.Pickings.{Picking, ArePicked}
 use Rattle.run_specs.specs.Automaton.{Automaton, width}

@@ -7,3 +7,5 @@ pub mod PathPicks
 pub mod GapParts
 pub mod RestParts
 pub mod RunParts
+pub mod LeastNumbers
+pub mod FirstGaps

@@ -1,17 +1,15 @@
 -- What the picking of a leg or of a jump leaves open, in the words of legs and jumps.
-use Rattle.std.proofs.Common.{◌≡◌, ◌↔◌, ℕ, zero, suc, ◌+◌, ◌<◌, List, [], ◌∷◌, ◌++◌, length, length-append, length-take, length-drop, append_assoc, take, drop, refl, sym, ◌∙◌, ap, subst, arith, ℤ, pos, ◌+ℤ◌, ◌-ℤ◌, ◌<ℤ◌}
+use Rattle.std.proofs.Common.{◌≡◌, ◌↔◌, ℕ, zero, suc, ◌+◌, ◌<◌, List, [], ◌∷◌, ◌++◌, length, length-append, length-take, length-drop, append_assoc, take, drop, refl, sym, ◌∙◌, ap, subst, arith, ℤ, pos, ◌<ℤ◌}
 use Rattle.std.proofs.lemmas.List.{take-append-drop}
-use Rattle.run_parts.proofs.Choices.{at_place, Agree, Chosen, chosen_back, back_chosen, fractions_both, at_coordinate, point_agree, agree_point}
+use Rattle.run_parts.proofs.Choices.{at_place, Chosen, chosen_back, back_chosen, fractions_both, at_coordinate, point_agree, agree_point}
 use Rattle.run_specs.proofs.PickedLemmas.{length-fractions}
 use Rattle.run_specs.proofs.StageLemmas.{leg_exact, jump_exact}
 use Rattle.poly_specs.specs.Fractions.{Fraction, SameFraction, fractions}
-use Rattle.poly_specs.specs.Rows.{Point, Row, over, coordinate, SamePoint, AllHold, AllWide}
-use Rattle.poly_specs.specs.Bounds.{IsPoint}
+use Rattle.poly_specs.specs.Rows.{Row, over, SamePoint, AllHold, AllWide}
 use Rattle.poly_specs.specs.Pickings.{Picking, IsOpen}
 use Rattle.run_specs.specs.Automaton.{Automaton, width, location_at, transition_at}
 use Rattle.run_specs.specs.WellFormed.{IsLocation}
-use Rattle.run_specs.specs.Runs.{IsLeg, IsJump}
-use Rattle.run_specs.specs.Stages.{leg_rows, leg_point, jump_rows, jump_point}
+use Rattle.run_specs.specs.Stages.{leg_rows, jump_rows}
 use Rattle.run_specs.specs.Ends.{EndsLeg, EndsJump}
 
 -- ---- any picking

@@ -1,5 +1,5 @@
 -- A leg, or a jump, from the state before, put before the rest of a path.
-use Rattle.std.proofs.Common.{◌≡◌, ℕ, suc, ◌+◌, ◌<◌, List, [], ◌∷◌, ◌++◌, length, length-append, refl, sym, ◌∙◌, ap, subst, arith, ℤ, pos, ◌+ℤ◌, ◌-ℤ◌, ◌*ℤ◌, ◌<ℤ◌}
+use Rattle.std.proofs.Common.{◌≡◌, ℕ, ◌+◌, ◌<◌, List, [], ◌∷◌, ◌++◌, length, length-append, refl, sym, ◌∙◌, ap, subst, arith, ℤ, pos, ◌+ℤ◌, ◌-ℤ◌, ◌*ℤ◌, ◌<ℤ◌}
 use Rattle.std.specs.List.{AllZip}
 use Rattle.std.proofs.lemmas.Int.{ints}
 use Rattle.std.proofs.lemmas.List.{length-map}
@@ -18,7 +18,7 @@ use Rattle.run_parts.proofs.PathNumbers.{backwards_scaled}
 use Rattle.poly_specs.specs.Lists.{scaled}
 use Rattle.poly_specs.specs.Fractions.{Fraction, SameFraction, fractions}
 use Rattle.poly_specs.specs.Rows.{Point, Row, over, SamePoint, AllHold, AllWide}
-use Rattle.run_specs.specs.Automaton.{Automaton, width, location_at, transition_at}
+use Rattle.run_specs.specs.Automaton.{Automaton, width, transition_at}
 use Rattle.run_specs.specs.WellFormed.{IsWellFormed}
 use Rattle.run_specs.specs.Runs.{Leg, Move, IsJump, LeadOn, total}
 use Rattle.run_specs.specs.FirstRun.{backwards}

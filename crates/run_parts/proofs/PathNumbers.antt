@@ -1,6 +1,5 @@
 -- The numbers of paths: how many there are, their multiples, and the sum of the lengths.
-use Rattle.std.proofs.Common.{◌≡◌, ℕ, zero, suc, ◌+◌, ◌<◌, List, [], ◌∷◌, ◌++◌, length, length-append, append_assoc, refl, sym, ◌∙◌, ap, ap₂, subst, arith, ℤ, pos, ◌+ℤ◌, ◌-ℤ◌, ◌*ℤ◌, ◌<ℤ◌}
-use Rattle.std.proofs.lemmas.Int.{ints}
+use Rattle.std.proofs.Common.{◌≡◌, ℕ, suc, List, [], ◌∷◌, ◌++◌, length, length-append, append_assoc, refl, sym, ◌∙◌, ap, ap₂, subst, arith, ℤ, ◌+ℤ◌, ◌*ℤ◌}
 use Rattle.std.proofs.lemmas.List.{length-map}
 use Rattle.poly_specs.proofs.IntLemmas.{add_mul}
 use Rattle.run_specs.proofs.FirstRunLemmas.{scaled-append, split_same}
@@ -8,7 +7,7 @@ use Rattle.run_specs.proofs.MixLemmas.{transitions}
 use Rattle.run_specs.proofs.ScaledRuns.{scaled_leg, scaled_moves}
 use Rattle.poly_specs.specs.Lists.{scaled, number_at}
 use Rattle.poly_specs.specs.Rows.{over, SamePoint}
-use Rattle.run_specs.specs.Automaton.{Automaton, width, transition_at}
+use Rattle.run_specs.specs.Automaton.{Automaton, transition_at}
 use Rattle.run_specs.specs.Runs.{Leg, Move, LeadOn, total}
 use Rattle.run_specs.specs.FirstRun.{backwards}
 

@@ -1,6 +1,5 @@
 -- The numbers of a path: what other paths from the state leave for each is what its picking leaves open.
-use Rattle.std.proofs.Common.{◌≡◌, ◌⊎◌, inl, inr, ℕ, zero, suc, ◌+◌, ◌<◌, List, [], ◌∷◌, ◌++◌, length, length-append, refl, sym, ◌∙◌, ap, subst, arith, ℤ, pos, ◌+ℤ◌, ◌-ℤ◌, ◌*ℤ◌, ◌<ℤ◌}
-use Rattle.std.specs.List.{AllZip}
+use Rattle.std.proofs.Common.{◌≡◌, ℕ, ◌+◌, ◌<◌, List, [], ◌∷◌, ◌++◌, length, length-append, refl, sym, ◌∙◌, ap, subst, arith, ℤ, pos, ◌+ℤ◌, ◌-ℤ◌, ◌*ℤ◌, ◌<ℤ◌}
 use Rattle.std.proofs.lemmas.Int.{ints}
 use Rattle.run_specs.proofs.EndLemmas.{leg_ends, jump_ends}
 use Rattle.run_specs.proofs.GapBack.{PathBack}
@@ -8,12 +7,11 @@ use Rattle.run_specs.proofs.MixLemmas.{transitions}
 use Rattle.run_specs.proofs.PickedLemmas.{length-fractions}
 use Rattle.run_specs.proofs.ScaledRuns.{last_same, sum_times}
 use Rattle.run_specs.proofs.StageWidths.{location_is, transition_is, leg_after_wide}
-use Rattle.run_parts.proofs.Choices.{Agree, Chosen, chosen_front, front_chosen, chosen_back, back_chosen, are_all, all_of_both, fractions_both, point_agree, agree_point, chosen_moved, zip_equal}
+use Rattle.run_parts.proofs.Choices.{Agree, Chosen, chosen_front, front_chosen, chosen_back, back_chosen, fractions_both, agree_point, chosen_moved, zip_equal}
 use Rattle.run_parts.proofs.OpenParts.{LegOpen, JumpOpen}
 use Rattle.run_parts.proofs.PathNumbers.{none_first, same_tail, same_head, as_many, parts_same, parts_join, same_one, start_same, total_same}
 use Rattle.run_parts.proofs.PathGlue.{Rest, Way, Glued, glued_leg, glued_jump, respelt}
-use Rattle.poly_specs.specs.Lists.{scaled}
-use Rattle.poly_specs.specs.Fractions.{Fraction, SameFraction, fractions}
+use Rattle.poly_specs.specs.Fractions.{Fraction, fractions}
 use Rattle.poly_specs.specs.Rows.{Point, Row, over, SamePoint, AllHold, AllWide}
 use Rattle.run_specs.specs.Automaton.{Automaton, width, location_at, transition_at}
 use Rattle.run_specs.specs.WellFormed.{IsWellFormed}
@@ -21,7 +19,7 @@ use Rattle.run_specs.specs.Runs.{Leg, Move, IsLeg, IsJump, LeadOn, total}
 use Rattle.run_specs.specs.FirstRun.{backwards}
 use Rattle.run_specs.specs.Passes.{Fits}
 use Rattle.run_specs.specs.Stages.{rows_after, leg_stage, jump_stage}
-use Rattle.run_specs.specs.Ends.{EndsLeg, EndsJump, SomeJumpEnds}
+use Rattle.run_specs.specs.Ends.{EndsJump, SomeJumpEnds}
 
 -- the time before the rest, where the whole times and the rests are equal
 time_before : (x y u w d c : ℤ) → (x +ℤ u) *ℤ c ≡ (y +ℤ w) *ℤ d → u *ℤ c ≡ w *ℤ d → x *ℤ c ≡ y *ℤ d

@@ -1,5 +1,5 @@
 -- Where each number of a path is the pick of what other paths leave for it, each picking of the path is picked.
-use Rattle.std.proofs.Common.{◌≡◌, ◌⊎◌, inl, inr, ℕ, zero, suc, ◌+◌, ◌<◌, ◌≤◌, List, [], ◌∷◌, ◌++◌, length, length-append, append_assoc, refl, sym, ◌∙◌, ap, subst, arith, ℤ, pos, ◌+ℤ◌, ◌<ℤ◌}
+use Rattle.std.proofs.Common.{◌≡◌, inl, inr, ℕ, ◌+◌, ◌<◌, List, [], ◌∷◌, ◌++◌, length, length-append, append_assoc, sym, ◌∙◌, ap, subst, arith, ℤ, ◌+ℤ◌}
 use Rattle.run_specs.proofs.PickedLemmas.{length-fractions}
 use Rattle.run_specs.proofs.StageWidths.{location_is, transition_is, leg_after_wide, jump_wide_of}
 use Rattle.run_parts.proofs.Choices.{AreEqual, pick_of_equal, at_place, at_front, at_back, before_or_past, fractions_both}
@@ -12,7 +12,7 @@ use Rattle.poly_specs.specs.Picks.{IsPick}
 use Rattle.poly_specs.specs.Pickings.{Picking, IsOpen, ArePicked}
 use Rattle.run_specs.specs.Automaton.{Automaton, width, location_at, transition_at}
 use Rattle.run_specs.specs.WellFormed.{IsWellFormed, IsLocation}
-use Rattle.run_specs.specs.Runs.{Leg, Move, total}
+use Rattle.run_specs.specs.Runs.{Leg, Move}
 use Rattle.run_specs.specs.FirstRun.{backwards}
 use Rattle.run_specs.specs.Stages.{rows_after, leg_rows, leg_stage, jump_rows, jump_stage}
 use Rattle.run_specs.specs.RunPasses.{path_pickings}

@@ -1,21 +1,21 @@
 -- The numbers of the gaps from some gap on: what other runs leave for each, from the rows before this gap.
-use Rattle.std.proofs.Common.{◌≡◌, inl, inr, ℕ, zero, suc, ◌+◌, ◌<◌, ◌≤◌, List, [], ◌∷◌, ◌++◌, length, length-append, append_assoc, map, Option, Some, refl, sym, ◌∙◌, ap, ap₂, subst, arith, ℤ, pos, ◌<ℤ◌}
+use Rattle.std.proofs.Common.{◌≡◌, inl, ℕ, ◌+◌, ◌<◌, ◌≤◌, List, [], ◌∷◌, ◌++◌, length, length-append, append_assoc, map, Option, refl, sym, ◌∙◌, ap, ap₂, subst, arith, pos, ◌<ℤ◌}
 use Rattle.std.specs.List.{AllZip}
 use Rattle.poly_specs.proofs.IntLemmas.{product_positive}
 use Rattle.poly_specs.proofs.LinearLemmas.{SamePoint-trans}
-use Rattle.run_specs.proofs.GapBack.{GapBack, gap_back}
+use Rattle.run_specs.proofs.GapBack.{gap_back}
 use Rattle.run_specs.proofs.GapEnds.{IsGapCase, gap_there}
 use Rattle.run_specs.proofs.HistorySystems.{AreCells, passing_system}
-use Rattle.run_specs.proofs.MixRuns.{IsAlike, ArePlaces, all_alike, length-same_point}
+use Rattle.run_specs.proofs.MixRuns.{IsAlike, all_alike, length-same_point}
 use Rattle.run_specs.proofs.PickedLemmas.{length-fractions, last_numbers, before_numbers}
 use Rattle.run_specs.proofs.RunEndLemmas.{all_same, IsAt, fits, length_path}
 use Rattle.run_specs.proofs.ScaledRuns.{take_whole}
 use Rattle.run_specs.proofs.SystemLemmas.{at_same_point}
-use Rattle.run_parts.proofs.Choices.{Agree, Chosen, chosen_front, front_chosen, chosen_back, back_chosen, agree_back, fractions_both, point_agree, agree_point}
+use Rattle.run_parts.proofs.Choices.{Agree, Chosen, chosen_front, front_chosen, chosen_back, back_chosen, agree_back, point_agree, agree_point}
 use Rattle.run_parts.proofs.PathNumbers.{as_many, start_same}
 use Rattle.run_parts.proofs.GapParts.{GapTakes, back_of}
 use Rattle.poly_specs.specs.Lists.{In}
-use Rattle.poly_specs.specs.Fractions.{Fraction, IsFraction, SameFraction, fractions, difference}
+use Rattle.poly_specs.specs.Fractions.{Fraction, IsFraction, fractions, difference}
 use Rattle.poly_specs.specs.Rows.{Point, Row, over, SamePoint, AllHold, AllWide}
 use Rattle.run_specs.specs.Automaton.{Automaton, width}
 use Rattle.run_specs.specs.WellFormed.{IsWellFormed}
@@ -24,7 +24,7 @@ use Rattle.run_specs.specs.Runs.{GapRun, Place, Continues, Follows, path_of, end
 use Rattle.run_specs.specs.Passes.{Fits}
 use Rattle.run_specs.specs.Stages.{gap_rows}
 use Rattle.run_specs.specs.Aims.{EndsWhere}
-use Rattle.run_specs.specs.FirstRun.{backwards, last_values, numbers_before}
+use Rattle.run_specs.specs.FirstRun.{last_values, numbers_before}
 
 -- ---- lists
 

@@ -1,5 +1,5 @@
 -- Each number of a first run is the pick of what its picking leaves open.
-use Rattle.std.proofs.Common.{◌≡◌, inl, inr, ℕ, ◌+◌, ◌<◌, List, [], ◌∷◌, ◌++◌, length, length-append, map, get_or, IfSome, Some, refl, sym, ◌∙◌, ap, subst, arith, pos, ◌<ℤ◌}
+use Rattle.std.proofs.Common.{◌≡◌, inl, inr, ℕ, ◌+◌, ◌<◌, List, [], ◌∷◌, ◌++◌, length, length-append, IfSome, Some, refl, sym, ◌∙◌, ap, subst, arith, pos, ◌<ℤ◌}
 use Rattle.std.specs.Prelude.{IsSomeAnd}
 use Rattle.poly_specs.proofs.InclusionLemmas.{in_either}
 use Rattle.run_specs.proofs.AimLemmas.{last_of, gaps_end}
@@ -10,16 +10,16 @@ use Rattle.run_specs.proofs.MixRuns.{runs_alike}
 use Rattle.run_specs.proofs.OverflowLemmas.{opening_rows_are, starts_within}
 use Rattle.run_specs.proofs.PickedLemmas.{length-fractions, picked_numbers}
 use Rattle.run_specs.proofs.PickedValues.{zip_at_take, zip_take}
-use Rattle.run_specs.proofs.RunEndLemmas.{all_same, IsAt, starts_inside}
+use Rattle.run_specs.proofs.RunEndLemmas.{all_same, starts_inside}
 use Rattle.run_specs.proofs.RunNumbers.{visits_same}
 use Rattle.run_specs.proofs.StageLemmas.{holds_both}
 use Rattle.run_specs.proofs.StageWidths.{location_is, end_within, gap_wide}
 use Rattle.run_parts.proofs.Choices.{pick_of_equal, at_place, at_front, at_back}
 use Rattle.run_parts.proofs.GapParts.{GapTakes, GapPicks, back_of, gap_picked}
-use Rattle.run_parts.proofs.RestParts.{AreSamples, RestTakes, IsOwnRest, numbers_of, later, numbers_parts, next, own_sized, own_within, own_fits, duration_is, gap_of_rest, rest_of_gap, next_of_rest, rest_of_next}
+use Rattle.run_parts.proofs.RestParts.{AreSamples, RestTakes, IsOwnRest, numbers_of, later, numbers_parts, own_sized, own_within, own_fits, duration_is, gap_of_rest, rest_of_gap, next_of_rest, rest_of_next}
 use Rattle.poly_specs.specs.Lists.{In}
-use Rattle.poly_specs.specs.Fractions.{Fraction, IsFraction, SameFraction, fractions, difference, zero_fraction}
-use Rattle.poly_specs.specs.Rows.{Point, Row, AllHold, AllWide}
+use Rattle.poly_specs.specs.Fractions.{Fraction, fractions, difference, zero_fraction}
+use Rattle.poly_specs.specs.Rows.{Row, AllHold, AllWide}
 use Rattle.poly_specs.specs.Picks.{IsPick}
 use Rattle.poly_specs.specs.Pickings.{Picking, IsOpen, ArePicked}
 use Rattle.run_specs.specs.Automaton.{Automaton, width, location_at}
