@@ -1,21 +1,21 @@
 -- Numbers over their least denominator are their fractions over the least common denominator.
 use Rattle.std.proofs.Common.{◌≡◌, ℕ, zero, suc, ◌*◌, ◌/◌, ◌<◌, List, [], ◌∷◌, map, fold, refl, sym, ◌∙◌, ap, ap₂, subst, arith, ℤ, pos, ◌*ℤ◌, ◌<ℤ◌, unsigned_abs}
-use Rattle.std.specs.Prelude.{int_div}
+use Rattle.std.specs.Prelude.{int_div, All}
 use Rattle.std.specs.Int.{◌∣◌}
-use Rattle.std.specs.List.{AllByRecursion}
+use Rattle.std.specs.List.{AllByRecursion, AllZip}
 use Rattle.std.proofs.Math.Nat.{dvd-mul_left, dvd-mul_right, mul-div_cancel', mul-dvd-mul_left, dvd_of_mul-dvd-mul_left}
 use Rattle.std.proofs.lemmas.Int.{ints, unsigned_abs-mul}
 use Rattle.std.proofs.lemmas.Nat.Gcd.{dvd_trans, dvd_refl}
-use Rattle.std.proofs.lemmas.List.Elements.{All-from_recursion}
+use Rattle.std.proofs.lemmas.List.Elements.{All-from_recursion, recursion_from_All}
 use Rattle.poly_specs.proofs.ColumnLemmas.{abs_is}
 use Rattle.poly_specs.proofs.CombinationLemmas.{gcd-IsGcd, exact}
 use Rattle.poly_specs.proofs.FractionLemmas.{same-trans}
 use Rattle.poly_specs.proofs.GcdLemmas.{gcd-positive, gcd-scaled}
 use Rattle.poly_specs.proofs.IntLemmas.{products, same_cancel, mul_comm_int}
-use Rattle.poly_specs.proofs.LowestLemmas.{shared, size-positive, lowest-IsFraction, lowest-same, lowest-den}
+use Rattle.poly_specs.proofs.LowestLemmas.{shared, size-positive, lowest-IsFraction, lowest-same, lowest-den, same-lowest}
 use Rattle.poly_specs.proofs.PrimitiveLemmas.{IsPrimitive}
 use Rattle.poly_specs.specs.Arithmetic.{lowest}
-use Rattle.poly_specs.specs.Denominators.{lcm, common_den, common_numbers, num_over}
+use Rattle.poly_specs.specs.Denominators.{lcm, common_den, common_nums, common_numbers, num_over}
 use Rattle.poly_specs.specs.Elimination.{gcd}
 use Rattle.poly_specs.specs.Fractions.{Fraction, IsFraction, SameFraction, fractions}
 
@@ -154,3 +154,32 @@ least_numbers d ns hd primitive =
   where
     one_divides : (m : ℕ) → 1 ∣ m
     one_divides m = subst (λ n. 1 ∣ n) (let e : 1 * m ≡ m = omega arith in e) (dvd-mul_right 1 m)
+
+-- ---- equal fractions
+
+lowest_alike : (xs ys : List Fraction) → AllByRecursion IsFraction xs → AllByRecursion IsFraction ys → AllZip SameFraction xs ys → map lowest xs ≡ map lowest ys
+lowest_alike [] [] h g same = refl
+lowest_alike [] (y ∷ ys) h g same = absurd same
+lowest_alike (x ∷ xs) [] h g same = absurd same
+lowest_alike (x ∷ xs) (y ∷ ys) h g same = ap₂ (λ (z : Fraction) (zs : List Fraction). z ∷ zs) (same-lowest x y h.0 g.0 same.0) (lowest_alike xs ys h.1 g.1 same.1)
+
+-- the numbers are those of the fractions in lowest terms
+abbrev dens_lowest : ℕ → List Fraction → ℕ
+dens_lowest d zs = fold (λ e z. lcm e (unsigned_abs z.den)) d zs
+
+dens_by_lowest : (d : ℕ) (xs : List Fraction) → all_dens d xs ≡ dens_lowest d (map lowest xs)
+dens_by_lowest d [] = refl
+dens_by_lowest d (x ∷ xs) = dens_by_lowest (lcm d (den_of x)) xs
+
+nums_by_lowest : (d : ℕ) (xs : List Fraction) → map (num_over d) xs ≡ map (λ z. z.num *ℤ int_div (pos d) z.den) (map lowest xs)
+nums_by_lowest d [] = refl
+nums_by_lowest d (x ∷ xs) = ap (λ ns. num_over d x ∷ ns) (nums_by_lowest d xs)
+
+pub equal_numbers : (xs ys : List Fraction) → All IsFraction xs → All IsFraction ys → AllZip SameFraction xs ys → common_numbers xs ≡ common_numbers ys
+equal_numbers xs ys h g same =
+    let alike = lowest_alike xs ys (recursion_from_All IsFraction xs h) (recursion_from_All IsFraction ys g) same in
+    let dens : common_den xs ≡ common_den ys = dens_by_lowest 1 xs ∙ ap (dens_lowest 1) alike ∙ sym (dens_by_lowest 1 ys) in
+    let nums : common_nums xs ≡ common_nums ys =
+    nums_by_lowest (common_den xs) xs ∙ ap (map (λ z. z.num *ℤ int_div (pos (common_den xs)) z.den)) alike
+    ∙ sym (nums_by_lowest (common_den xs) ys) ∙ ap (λ (d : ℕ). map (num_over d) ys) dens in
+    ap₂ (λ (d : ℕ) (ns : List ℤ). pos d ∷ ns) dens nums

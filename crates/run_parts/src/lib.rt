@@ -1,8 +1,10 @@
 //! From which rows all numbers of a first run are picked.
 #![tactic(auto)]
 
-ghost use Rattle.std.specs.Prelude.{◌≡◌, ℕ, ◌<◌, List, ◌∷◌, ◌++◌, length, Some};
+ghost use Rattle.std.specs.Prelude.{◌≡◌, ℕ, ◌<◌, List, ◌∷◌, ◌++◌, length, All, Some};
+ghost use Rattle.std.specs.List.{AllZip};
 ghost use Rattle.poly_specs.specs.Lists.{In};
+ghost use Rattle.poly_specs.specs.Fractions.{Fraction, IsFraction, SameFraction};
 ghost use Rattle.poly_specs.specs.Rows.{Row};
 ghost use Rattle.poly_specs.specs.Bits.{SomePasses};
 ghost use Rattle.poly_specs.specs.Denominators.{common_numbers};
@@ -31,6 +33,11 @@ pub fn aimed_runs_have_gaps()
 pub fn gaps_are_over_common_denominators()
     ensures { (a : Automaton) (k : ℕ) (log : List Sample) (aim : Aim) (run : Run) (g : GapRun) → IsFirstRun a k log aim run → In g run.gaps →
         common_numbers (gap_numbers g) ≡ g.den ∷ (g.last.at_end ++ backwards g.start g.moves g.last) }
+{}
+
+/// Equal fractions have equal numbers over their least common denominators.
+pub fn equal_fractions_have_equal_common_numbers()
+    ensures { (xs ys : List Fraction) → All IsFraction xs → All IsFraction ys → AllZip SameFraction xs ys → common_numbers xs ≡ common_numbers ys }
 {}
 
 /// A first run with a number that passes 128 bits passes.
