@@ -9,3 +9,4 @@ pub mod RestParts
 pub mod RunParts
 pub mod LeastNumbers
 pub mod FirstGaps
+pub mod WideGaps

@@ -12,10 +12,11 @@ ghost use Rattle.poly_specs.specs.Pickings.{Picking, ArePicked};
 ghost use Rattle.run_specs.specs.Automaton.{Automaton, width, location_at};
 ghost use Rattle.run_specs.specs.WellFormed.{IsWellFormed};
 ghost use Rattle.run_specs.specs.Logs.{Sample, IsLog};
-ghost use Rattle.run_specs.specs.Runs.{GapRun, Run};
+ghost use Rattle.run_specs.specs.Runs.{GapRun, Run, IsRun, path_of};
 ghost use Rattle.run_specs.specs.Aims.{Aim, IsAimedRun};
 ghost use Rattle.run_specs.specs.FirstRun.{backwards, IsFirstRun};
 ghost use Rattle.run_specs.specs.RunPasses.{pickings, gap_numbers, RunPasses};
+ghost use Rattle.run_parts.specs.Widths.{IsWide};
 
 /// Each number of a first run is the pick of what its picking leaves open.
 pub fn numbers_of_first_runs_are_picked()
@@ -38,6 +39,17 @@ pub fn gaps_are_over_common_denominators()
 /// Equal fractions have equal numbers over their least common denominators.
 pub fn equal_fractions_have_equal_common_numbers()
     ensures { (xs ys : List Fraction) → All IsFraction xs → All IsFraction ys → AllZip SameFraction xs ys → common_numbers xs ≡ common_numbers ys }
+{}
+
+/// Each point of a run has a value for each variable.
+pub fn gaps_of_runs_are_wide()
+    ensures { (a : Automaton) (k : ℕ) (log : List Sample) (run : Run) (g : GapRun) → IsRun a k log run → In g run.gaps → IsWide (width a) g }
+{}
+
+/// Gap runs from one location along one path that have equal numbers are equal.
+pub fn equal_numbers_make_equal_gaps()
+    ensures { (n : ℕ) (g h : GapRun) → IsWide n g → IsWide n h → g.start_loc ≡ h.start_loc → path_of g ≡ path_of h → g.den ≡ h.den →
+        g.last.at_end ++ backwards g.start g.moves g.last ≡ h.last.at_end ++ backwards h.start h.moves h.last → g ≡ h }
 {}
 
 /// A first run with a number that passes 128 bits passes.
