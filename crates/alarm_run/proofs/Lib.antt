@@ -1,3 +1,5 @@
 pub mod LeastLemmas
 pub mod PartLemmas
 pub mod BeginLemmas
+pub mod ShapeLemmas
+pub mod TraceLemmas

@@ -26,16 +26,16 @@ number_is p j h =
     ∙ ap lowest (get_or-map (λ n. record { num = n; den = p.den }) p.num j (pos 0) zero_fraction h)
 
 module _ (s : System) (given : List Fraction) (p : Point) (is : IsPickedPoint s given p) where
-  number_at : (j : ℕ) → j < s.width → lowest (coordinate j p) ≡ get_or is.numbers j zero_fraction
-  number_at j h =
+  pub picked_at : (j : ℕ) → j < s.width → lowest (coordinate j p) ≡ get_or is.numbers j zero_fraction
+  picked_at j h =
       let there : j < length is.numbers = omega (arith, h, is.picked.sized) in
       let low : IsLowest (get_or is.numbers j zero_fraction) = is.lowest_terms j zero_fraction there in
       same-lowest (coordinate j p) (get_or is.numbers j zero_fraction) is.picked.point.positive low.positive (is.picked.agrees j h) ∙ low.lowest_terms
 
-  picked_numbers : numbers_of p ≡ is.numbers
+  pub picked_numbers : numbers_of p ≡ is.numbers
   picked_numbers = ext_get_or zero_fraction (numbers_of p) is.numbers (length-numbers p ∙ is.picked.point.sized ∙ sym is.picked.sized)
       (λ j h. let lt : j < length p.num = omega (arith, h, length-numbers p) in
-      number_is p j lt ∙ number_at j (omega (arith, lt, is.picked.point.sized)))
+      number_is p j lt ∙ picked_at j (omega (arith, lt, is.picked.point.sized)))
 
 pub leg_part : (a : Automaton) (l : ℕ) (state : List Row) (after p : Point) (m : ℕ) (stay : Fraction) (start : Point) → m ≡ width a →
     IsPickedPoint (leg_columns a l state) (numbers_of after) p → stay ≡ lowest (coordinate (m + 1) p) → start ≡ common_point (drop (m + 2) (numbers_of p)) →
@@ -45,7 +45,7 @@ leg_part a l state after p m stay start e is f g = record {
   point = p;
   lowest_terms = is.lowest_terms;
   picked = is.picked;
-  stay_is = f ∙ ap (λ n. lowest (coordinate (n + 1) p)) e ∙ number_at (leg_columns a l state) (numbers_of after) p is (width a + 1) (omega arith);
+  stay_is = f ∙ ap (λ n. lowest (coordinate (n + 1) p)) e ∙ picked_at (leg_columns a l state) (numbers_of after) p is (width a + 1) (omega arith);
   start_is = g ∙ ap (λ n. common_point (drop (n + 2) (numbers_of p))) e ∙ ap (λ xs. common_point (drop (width a + 2) xs)) (picked_numbers (leg_columns a l state) (numbers_of after) p is);
 }
 

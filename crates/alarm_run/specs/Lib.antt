@@ -1,1 +1,3 @@
 pub mod Befores
+pub mod Shapes
+pub mod Traces

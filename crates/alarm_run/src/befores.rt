@@ -36,7 +36,7 @@ fn picked_after(alloc: Global, system: &System, first: &Point) -> Result<Point, 
 }
 
 /// The point of the leg's system that ends at the given numbers, and is picked else.
-fn leg_point(
+pub fn leg_point(
     alloc: Global,
     a: &Automaton,
     loc: u8,
@@ -57,7 +57,7 @@ fn leg_point(
 }
 
 /// The point of the jump's system that ends at the given numbers, and is picked else.
-fn jump_point(
+pub fn jump_point(
     alloc: Global,
     a: &Automaton,
     trans: u8,

@@ -2,6 +2,12 @@
 #![tactic(auto)]
 
 mod befores;
+mod commons;
 mod parts;
+mod shapes;
+mod traces;
 
 pub use befores::{jump_before, leg_before};
+pub use commons::over_all;
+pub use shapes::gap_run_of;
+pub use traces::{Back, jump_back, leg_back};

@@ -68,7 +68,7 @@ fn common_of(alloc: Global, numbers: &[Frac]) -> Result<Point, AllocError>
 }
 
 /// The numbers from a place on.
-fn from_place(numbers: &[Frac], from: usize) -> &[Frac]
+pub fn from_place(numbers: &[Frac], from: usize) -> &[Frac]
     requires { from ≤ length numbers.now }
     ensures { result.now ≡ drop from numbers.now }
 {
