@@ -3,3 +3,5 @@ pub mod PartLemmas
 pub mod BeginLemmas
 pub mod ShapeLemmas
 pub mod TraceLemmas
+pub mod InsideLemmas
+pub mod PathLemmas

@@ -1,9 +1,9 @@
 -- The numbers of a gap, backwards along its path from where it ends.
-use Rattle.std.specs.Prelude.{◌≡◌, ◌⊎◌, ℕ, ◌+◌, ◌-◌, List, [], ◌∷◌, ◌++◌, All, drop, length, slice_index_or}
+use Rattle.std.specs.Prelude.{◌≡◌, ◌⊎◌, ℕ, ◌+◌, ◌-◌, ◌≤◌, List, [], ◌∷◌, ◌++◌, All, drop, length, slice_index_or}
 use Rattle.poly_specs.specs.Arithmetic.{lowest, sum_numbers}
 use Rattle.poly_specs.specs.Bits.{SomePasses}
 use Rattle.poly_specs.specs.Denominators.{common_numbers}
-use Rattle.poly_specs.specs.Fractions.{Fraction, difference, opposite, zero_fraction}
+use Rattle.poly_specs.specs.Fractions.{Fraction, IsFraction, difference, opposite, zero_fraction}
 use Rattle.poly_specs.specs.LowestTerms.{IsLowest}
 use Rattle.poly_specs.specs.Pickings.{ArePickedNumbers}
 use Rattle.poly_specs.specs.Rows.{Point, Row}
@@ -19,6 +19,12 @@ pub record BackValue : Type 0 where
 -- of m variables: the last values, and then the elapsed time
 abbrev pub after_of : ℕ → BackValue → List Fraction
 after_of m b = drop (length b.numbers - m) b.numbers ++ b.elapsed ∷ []
+
+-- there are values of m variables among the numbers, and these and the elapsed time are fractions
+pub record IsBack (m : ℕ) (b : BackValue) : Type 0 where
+  pub sized : m ≤ length b.numbers
+  pub fractions : All IsFraction b.numbers
+  pub elapsed : IsFraction b.elapsed
 
 -- numbers for all columns of the system that begin with the given ones, each further one picked
 pub record ArePickedAfter (s : System) (given numbers : List Fraction) : Type 0 where

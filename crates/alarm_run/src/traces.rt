@@ -4,10 +4,11 @@ ghost use Rattle.std.specs.Prelude.{◌≡◌, ◌+◌, ◌-◌, ◌<◌, ◌≤
 ghost use Rattle.poly_specs.specs.Arithmetic.{IsKept};
 ghost use Rattle.poly_specs.specs.Bits.{SomePasses};
 ghost use Rattle.poly_specs.specs.Denominators.{common_numbers};
+ghost use Rattle.poly_specs.specs.Rows.{AllHold};
 ghost use Rattle.run_specs.specs.Automaton.{width};
 ghost use Rattle.run_specs.specs.Ends.{SomeLegEnds, SomeJumpEnds};
 ghost use Rattle.alarm_run.specs.Befores.{common_point, leg_columns, jump_columns};
-ghost use Rattle.alarm_run.specs.Traces.{after_of, ArePickedAfter, IsLegBack, IsJumpBack, BackPasses, LegBackPasses, JumpBackPasses};
+ghost use Rattle.alarm_run.specs.Traces.{after_of, ArePickedAfter, IsBack, IsLegBack, IsJumpBack, BackPasses, LegBackPasses, JumpBackPasses};
 
 use crate::befores::{jump_point, leg_point};
 use crate::commons::over_all;
@@ -144,9 +145,8 @@ fn with_more(back: Back, more: &[Frac], elapsed: Frac) -> Result<Back, AllocErro
     Ok(Back { numbers, elapsed })
 }
 
-/// Goes back over a leg in location number `loc` that starts in the state and leads to the last
-/// values: its length is picked, and then the values at its start.
-pub fn leg_back(
+/// The numbers with those of a leg.
+fn over_leg(
     alloc: Global,
     a: &Automaton,
     loc: u8,
@@ -169,9 +169,33 @@ pub fn leg_back(
     Ok(more)
 }
 
-/// Goes back over a jump by transition number `trans` that starts in the state and leads to the
-/// last values: the values before it are picked.
-pub fn jump_back(
+/// Goes back over a leg in location number `loc` that starts in the state and leads to the last
+/// values: its length is picked, and then the values at its start, which are inside the state.
+pub fn leg_back(
+    alloc: Global,
+    a: &Automaton,
+    loc: u8,
+    state: &System,
+    back: Back,
+) -> Result<Back, RowFault>
+    requires known { loc < length a.now.locations }
+    requires wide { state.now.width ≡ width a.now + 1 }
+    requires back { IsBack (width a.now) back }
+    requires reached { SomeLegEnds a.now loc state.now.rows (common_point (after_of (width a.now) back)) }
+    ensures ok { IfOk result (λ b. IsLegBack a.now loc state.now.rows back b) }
+    ensures back { IfOk result (IsBack (width a.now)) }
+    ensures inside { IfOk result (λ b. AllHold state.now.rows (common_point (after_of (width a.now) b))) }
+    ensures passes { result ≡ Err RowFault.Passes → LegBackPasses a.now loc state.now.rows back }
+{
+    // The automaton and the rows are within their limits, as their readers say.
+    a.vars();
+    state.width();
+    let more = over_leg(alloc, a, loc, state, back)?;
+    Ok(more)
+}
+
+/// The numbers with those of a jump.
+fn over_jump(
     alloc: Global,
     a: &Automaton,
     trans: u8,
@@ -189,5 +213,30 @@ pub fn jump_back(
     let numbers = jump_numbers(alloc, a, trans, state, &back)?;
     let elapsed = back.elapsed;
     let more = with_more(back, from_place(numbers.as_slice(), first), elapsed)?;
+    Ok(more)
+}
+
+/// Goes back over a jump by transition number `trans` that starts in the state and leads to the
+/// last values: the values before it are picked, which are inside the state.
+pub fn jump_back(
+    alloc: Global,
+    a: &Automaton,
+    trans: u8,
+    state: &System,
+    back: Back,
+) -> Result<Back, RowFault>
+    requires known { trans < length a.now.transitions }
+    requires wide { state.now.width ≡ width a.now + 1 }
+    requires back { IsBack (width a.now) back }
+    requires reached { SomeJumpEnds a.now trans state.now.rows (common_point (after_of (width a.now) back)) }
+    ensures ok { IfOk result (λ b. IsJumpBack a.now trans state.now.rows back b) }
+    ensures back { IfOk result (IsBack (width a.now)) }
+    ensures inside { IfOk result (λ b. AllHold state.now.rows (common_point (after_of (width a.now) b))) }
+    ensures passes { result ≡ Err RowFault.Passes → JumpBackPasses a.now trans state.now.rows back }
+{
+    // The automaton and the rows are within their limits, as their readers say.
+    a.vars();
+    state.width();
+    let more = over_jump(alloc, a, trans, state, back)?;
     Ok(more)
 }
