@@ -1,13 +1,13 @@
 -- What lines that are read have: short names, and numbers of a log.
-use Rattle.std.proofs.Common.{◌≡◌, ℕ, ◌≤◌, List, [], ◌∷◌, length, Bool, true, false, if◌then◌else◌, ◌&&◌, Result, Ok, Err, refl, sym, ap, ◌∙◌, subst}
-use Rattle.std.specs.Prelude.{All, IfOk, ⊤, codes, bytes_eq, nat_le}
+use Rattle.std.proofs.Common.{◌≡◌, ℕ, ◌≤◌, List, [], ◌∷◌, length, Bool, true, false, if◌then◌else◌, ◌&&◌, Result, Ok, Err, refl, subst}
+use Rattle.std.specs.Prelude.{IfOk, ⊤, codes, bytes_eq, nat_le}
 use Rattle.std.specs.List.{list_all}
 use Rattle.std.proofs.lemmas.Bool.{and_parts, leb-true}
 use Rattle.run_specs.specs.Names.{is_name}
 use Rattle.log_specs.specs.declared.Refusal.{Refusal}
 use Rattle.log_specs.specs.declared.Refusal.TheVariants as why
 use Rattle.log_specs.specs.SessionNames.{is_session_byte, is_session_name}
-use Rattle.log_specs.specs.Fields.{fields_of, is_long, is_text, read_by}
+use Rattle.log_specs.specs.Fields.{fields_of, is_long, is_text}
 use Rattle.log_specs.specs.LogRows.{WatchRow, Cells, opening, sample, closing, flush, time_and_cells, as_sample, opening_of, sample_of, closing_of, flush_of, row_of, read_row, read_cells}
 use Rattle.log_specs.proofs.RowLemmas.{IsRead, IsReadRow, row_is, cells_are_read}
 use Rattle.log_session.specs.Told.{IsRowOfALine}

@@ -1,14 +1,13 @@
 -- What is told of a part of a row is told of the row.
-use Rattle.std.proofs.Common.{◌≡◌, ℕ, List, [], ◌∷◌, Bool, true, false, cond, find, Option, Some, None, Ok, refl, sym, ap, ◌∙◌, subst, bytes_eq}
+use Rattle.std.proofs.Common.{◌≡◌, ℕ, List, [], ◌∷◌, Bool, true, false, cond, find, Option, Some, None, Ok, sym, ap, ◌∙◌, subst, bytes_eq}
 use Rattle.std.specs.Prelude.{All, IfSome}
 use Rattle.std.specs.Option.{option_map}
 use Rattle.std.proofs.lemmas.List.Elements.{All-head, All-tail}
 use Rattle.run_specs.specs.Automaton.{Automaton}
-use Rattle.run_specs.specs.Logs.{Sample}
-use Rattle.log_specs.specs.LogRows.{Cells, opening, sample, closing, flush}
+use Rattle.log_specs.specs.LogRows.{Cells, opening, sample, closing}
 use Rattle.log_specs.specs.LogSessions.{automaton_of, judge_opening, session_of}
-use Rattle.log_session.specs.Progress.{Progress, IsTaskOf}
-use Rattle.log_session.specs.Told.{Tells, TellsRow, TellsOpening, TellsClosing, TellsSample}
+use Rattle.log_session.specs.Progress.{Progress}
+use Rattle.log_session.specs.Told.{TellsRow, TellsOpening, TellsClosing, TellsSample}
 use Rattle.log_session.proofs.ToldLemmas.{told_as}
 
 pub row_opening : (p new : Progress) (number : ℕ) (name automaton : List ℕ) (columns : List (List ℕ)) (a : Option Automaton) (before after : List ℕ) →

@@ -1,23 +1,20 @@
 -- What a line does is told by a block that it may have.
-use Rattle.std.proofs.Common.{◌≡◌, ℕ, List, [], ◌∷◌, ◌++◌, length, Bool, true, false, ◌||◌, Option, Some, None, refl, sym, ap, ◌∙◌, subst}
+use Rattle.std.proofs.Common.{◌≡◌, ℕ, List, [], ◌∷◌, ◌++◌, Bool, true, false, ◌||◌, Option, refl, sym, ap, ◌∙◌, subst}
 use Rattle.std.specs.Prelude.{codes, decimal}
-use Rattle.std.specs.List.{list_any}
 use Rattle.std.proofs.lemmas.List.{append-nil}
 use Rattle.run_specs.specs.Automaton.{Automaton}
 use Rattle.run_specs.specs.declared.Verdict.{Verdict}
 use Rattle.run_specs.specs.Verdicts.{IsLawful}
-use Rattle.run_specs.specs.Logs.{Sample}
 use Rattle.log_specs.specs.declared.LogForm.{LogForm}
 use Rattle.log_specs.specs.declared.RunsMode.{RunsMode}
 use Rattle.log_specs.specs.declared.RunsMode.TheVariants as mode
-use Rattle.log_specs.specs.declared.Refusal.{Refusal}
 use Rattle.log_specs.specs.LogRows.{Cells}
-use Rattle.log_specs.specs.LogSessions.{LogSession, LogState, Judgement, passed_over, refused, opened, closed, flushed, accepted, judge_opening, judge_closing, judge_sample, session_of}
+use Rattle.log_specs.specs.LogSessions.{LogState, Judgement, passed_over, opened, closed, flushed, accepted, judge_opening, judge_closing, judge_sample, session_of}
 use Rattle.log_specs.specs.Blocks.{Task, last_of, wants_run, IsRunPart, IsAnswered, subject, verdict_word, is_alarm}
 use Rattle.alarm_report.specs.ReportLines.{spoken_of, verdict_line}
 use Rattle.log_table.specs.declared.not_taken.NotTaken.{NotTaken}
 use Rattle.log_table.specs.Refusals.{IsNotTaken}
-use Rattle.log_table.specs.Tables.{Table, state_with, table_after, IsOpening, IsClosing, IsAccepted}
+use Rattle.log_table.specs.Tables.{Table, state_with, IsOpening, IsClosing, IsAccepted}
 use Rattle.log_session.specs.Progress.{Progress, IsTaskOf, is_overflow, progress_after}
 use Rattle.log_session.specs.Parts.{progress_of}
 use Rattle.log_session.specs.Told.{Tells, TellsOpening, TellsClosing, TellsSample, IsToldBy}

@@ -6,8 +6,8 @@ ghost use Rattle.log_specs.specs.Blocks as blocks;
 ghost use Rattle.alarm_report.specs.ReportLines.{spoken_of};
 ghost use Rattle.log_session.specs.Progress as progress;
 
-use run_specs::Verdict;
 use log_specs::LogForm;
+use run_specs::Verdict;
 
 /// Whether a reply is an alarm.
 pub(crate) fn is_alarm(verdict: Verdict) -> bool

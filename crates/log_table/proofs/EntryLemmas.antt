@@ -1,6 +1,6 @@
 -- The entries of a table as the log has them: what is found, written, and taken out under a name.
-use Rattle.std.proofs.Common.{◌≡◌, ℕ, ◌≤◌, List, [], ◌∷◌, ◌++◌, map, filter, find, length, Bool, true, false, not, cond, Option, Some, None, refl, sym, ap, ◌∙◌, subst, bytes_eq}
-use Rattle.std.specs.Prelude.{All, if◌then◌else◌}
+use Rattle.std.proofs.Common.{◌≡◌, ℕ, List, [], ◌∷◌, ◌++◌, map, filter, find, Bool, true, false, not, cond, Option, Some, None, refl, sym, ap, ◌∙◌, subst, bytes_eq}
+use Rattle.std.specs.Prelude.{All}
 use Rattle.std.specs.List.{IsDistinct, AllByRecursion}
 use Rattle.std.specs.Map.{keys_of, lookup, set_value, remove_entry}
 use Rattle.std.proofs.lemmas.List.Elements.{All-nil, All-cons, All-head, All-tail}
@@ -8,7 +8,7 @@ use Rattle.std.proofs.lemmas.Slice.Eq.{bytes_eq-Decides}
 use Rattle.run_specs.specs.Logs.{Sample}
 use Rattle.run_specs.specs.declared.Verdict.{Verdict}
 use Rattle.log_specs.specs.LogSessions.{LogSession, has_name, with_sample}
-use Rattle.log_specs.specs.Blocks.{LastReply, last_of, with_replies}
+use Rattle.log_specs.specs.Blocks.{last_of, with_replies}
 use Rattle.log_table.specs.Parts.{Opened, log_session_of, session_in, reply_in}
 
 abbrev Entries : Type 0
@@ -65,7 +65,7 @@ module _ (name : List ℕ) where
   has_one P (x ∷ es) o e h = by (bytes_eq name x.0) refl (has_one P es o)
     where
       by : (b : Bool) → bytes_eq name x.0 ≡ b → (lookup (bytes_eq name) es ≡ Some o → All (λ y. P y.1) es → P o) → P o
-      by true t go = 
+      by true t go =
           let value : ◌≡◌ {A = Option Opened} (Some x.1) (Some o) = sym (ap (λ c. cond c (Some x.1) (lookup (bytes_eq name) es)) t) ∙ e in
           let is : x.1 ≡ o = cc (value) in
           subst P is (All-head (λ y. P y.1) x es h)

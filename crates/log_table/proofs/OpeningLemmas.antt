@@ -1,6 +1,6 @@
 -- How an opening is judged.
 use Rattle.std.proofs.Common.{◌≡◌, ℕ, ◌+◌, ◌≤◌, ◌<◌, List, [], ◌∷◌, ◌++◌, map, length, Bool, true, false, not, Option, Some, None, refl, sym, ap, ◌∙◌, subst, arith, bytes_eq, is_some}
-use Rattle.std.specs.Prelude.{All, if◌then◌else◌, nat_le, IfSome}
+use Rattle.std.specs.Prelude.{All, if◌then◌else◌, nat_le}
 use Rattle.std.specs.List.{IsDistinct}
 use Rattle.std.specs.Map.{keys_of, lookup}
 use Rattle.std.proofs.lemmas.Bool.{le-leb, lt-leb}
@@ -8,12 +8,11 @@ use Rattle.std.proofs.lemmas.List.{length-map, map_push}
 use Rattle.std.proofs.lemmas.List.Elements.{All-push}
 use Rattle.run_specs.specs.Automaton.{Automaton}
 use Rattle.run_specs.specs.Keys.{State}
-use Rattle.run_specs.specs.Sessions.{MonitorSession, Idle}
 use Rattle.log_specs.specs.declared.Refusal.TheVariants as why
 use Rattle.log_specs.specs.LogSessions.{LogSession, LogState, Judgement, refused, opened, are_columns, judge_columns, judge_automaton, judge_opening, session_of}
 use Rattle.live_session.specs.Parts.{new_session}
 use Rattle.log_table.specs.Columns.{AreNumbersOf}
-use Rattle.log_table.specs.Tables.{Table, state_with, table_after, IsOpening}
+use Rattle.log_table.specs.Tables.{Table, state_with, IsOpening}
 use Rattle.log_table.specs.Parts.{Opened, log_session_of, session_in, reply_in, table_of, IsOpen, IsKept}
 use Rattle.log_table.proofs.EntryLemmas.{found, missing}
 
@@ -98,9 +97,9 @@ module _ (k n : ℕ) (es : Entries) (t : Table) (view : table_of k es n ≡ t) (
         next =
             let same = sym view in
             let sessions : map session_in after ≡ map session_in es ++ log_session_of name added.session ∷ [] =
-                ap (map session_in) grown ∙ map_push session_in es (key, added) ∙ ap (λ q. map session_in es ++ log_session_of q added.session ∷ []) is in
+            ap (map session_in) grown ∙ map_push session_in es (key, added) ∙ ap (λ q. map session_in es ++ log_session_of q added.session ∷ []) is in
             let replies : map reply_in after ≡ map reply_in es ++ record { session = name; reply = None } ∷ [] =
-                ap (map reply_in) grown ∙ map_push reply_in es (key, added) ∙ ap (λ q. map reply_in es ++ record { session = q; reply = None } ∷ []) is in
+            ap (map reply_in) grown ∙ map_push reply_in es (key, added) ∙ ap (λ q. map reply_in es ++ record { session = q; reply = None } ∷ []) is in
             cc (same, sessions, replies);
       }
 

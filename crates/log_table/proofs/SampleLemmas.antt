@@ -1,5 +1,5 @@
 -- How a sample of an open session is judged.
-use Rattle.std.proofs.Common.{◌≡◌, ◌≢◌, inl, inr, ℕ, ◌+◌, ◌≤◌, ◌<◌, List, [], ◌∷◌, ◌++◌, map, length, Bool, true, false, not, ◌==◌, Option, Some, None, refl, sym, ap, ◌∙◌, subst, arith, bytes_eq}
+use Rattle.std.proofs.Common.{◌≡◌, inl, inr, ℕ, ◌+◌, ◌≤◌, ◌<◌, List, [], ◌∷◌, ◌++◌, length, Bool, true, false, not, ◌==◌, Some, refl, sym, ap, ◌∙◌, subst, arith, bytes_eq}
 use Rattle.std.specs.Prelude.{All, if◌then◌else◌, nat_le, IfSome}
 use Rattle.std.specs.List.{IsDistinct}
 use Rattle.std.specs.Map.{keys_of, lookup, set_value}
@@ -10,20 +10,19 @@ use Rattle.run_specs.specs.Logs.{Sample}
 use Rattle.run_specs.specs.declared.Verdict.{Verdict}
 use Rattle.run_specs.specs.declared.Verdict.TheVariants.{Overflow}
 use Rattle.run_specs.specs.SessionHistories.{verdict_at}
-use Rattle.run_specs.specs.Sessions.{MonitorSession, IsMonitorSession, AreColumns, IsInTime, MayBegin, accepted}
+use Rattle.run_specs.specs.Sessions.{MonitorSession, IsMonitorSession, AreColumns, MayBegin, accepted}
 use Rattle.run_specs.specs.Verdicts.{IsLawful}
 use Rattle.log_specs.specs.declared.Refusal.{Refusal}
 use Rattle.log_specs.specs.declared.Refusal.TheVariants as why
 use Rattle.log_specs.specs.LogSessions.{LogSession, Judgement, refused, sample_in, may_follow, judge_sample, session_of}
 use Rattle.log_specs.specs.LogSessions as sessions
-use Rattle.log_specs.specs.Blocks.{last_of}
 use Rattle.live_session.specs.Driven.{IsDriven}
 use Rattle.live_session.proofs.DrivenLemmas.{driven_log, driven_columns, driven_automaton, driven_jumps, driven_idle}
 use Rattle.log_table.specs.declared.not_taken.NotTaken.{NotTaken}
 use Rattle.log_table.specs.declared.not_taken.NotTaken.TheVariants as not_taken
 use Rattle.log_table.specs.Refusals.{IsNotTaken, IsRefusedBy, IsSampleRefused}
-use Rattle.log_table.specs.Tables.{Table, state_with, table_after, cells_in, name_at, IsAccepted}
-use Rattle.log_table.specs.Parts.{Opened, log_session_of, session_in, reply_in, table_of, IsOpen, IsKept}
+use Rattle.log_table.specs.Tables.{Table, state_with, cells_in, name_at, IsAccepted}
+use Rattle.log_table.specs.Parts.{Opened, log_session_of, table_of, IsOpen, IsKept}
 use Rattle.log_table.proofs.CellLemmas.{placed_under}
 use Rattle.log_table.proofs.TimeLemmas.{follows, never_follows}
 use Rattle.log_table.proofs.EntryLemmas.{found, last_found, has_one, written_sessions, written_replies, unwritten, all_written}

@@ -1,13 +1,13 @@
 -- What rows do to a table.
-use Rattle.std.proofs.Common.{◌≡◌, ℕ, ◌+◌, ◌≤◌, ◌<◌, List, [], ◌∷◌, ◌++◌, map, find, length, Bool, true, false, Option, Some, None, refl, sym, ap, ◌∙◌, subst, arith, bytes_eq}
+use Rattle.std.proofs.Common.{◌≡◌, ℕ, ◌≤◌, List, length, Bool, Some, None, sym, ap, ◌∙◌, subst, arith, bytes_eq}
 use Rattle.std.specs.Prelude.{All}
 use Rattle.std.specs.List.{IsDistinct}
-use Rattle.std.specs.Map.{keys_of, lookup, set_value, remove_entry}
+use Rattle.std.specs.Map.{keys_of, lookup, remove_entry}
 use Rattle.log_specs.specs.declared.Refusal.TheVariants as why
-use Rattle.log_specs.specs.LogSessions.{has_name, judge_closing, judge_sample, session_of, closed, refused}
+use Rattle.log_specs.specs.LogSessions.{judge_closing, judge_sample, session_of, refused}
 use Rattle.log_specs.specs.LogRows.{Cells}
-use Rattle.log_table.specs.Tables.{Table, state_with, table_after, IsClosing}
-use Rattle.log_table.specs.Parts.{Opened, session_in, reply_in, table_of, IsOpen, IsKept}
+use Rattle.log_table.specs.Tables.{Table, state_with, IsClosing}
+use Rattle.log_table.specs.Parts.{Opened, table_of, IsOpen, IsKept}
 use Rattle.log_table.proofs.EntryLemmas.{found, missing, removed_sessions, removed_replies, all_left}
 
 abbrev Entries : Type 0

@@ -17,7 +17,12 @@ pub trait Drive {
     /// # Errors
     ///
     /// The first reason why the sample is refused, or want of memory. The session is then as before.
-    fn reply(&mut self, alloc: Global, session: &mut Session, sample: &Sample) -> Result<Verdict, SampleRefusal>
+    fn reply(
+        &mut self,
+        alloc: Global,
+        session: &mut Session,
+        sample: &Sample,
+    ) -> Result<Verdict, SampleRefusal>
         requires idle { session.old.phase ≡ Idle }
         requires time { IsLogNumber sample.now.time }
         requires cells { All (λ cell. IfSome cell IsLogNumber) sample.now.cells }

@@ -1,4 +1,4 @@
-use Rattle.std.proofs.Common.{◌≡◌, map, Result, Ok, sym, ap, ◌∙◌, subst}
+use Rattle.std.proofs.Common.{map, Result, Ok, sym, ap, ◌∙◌, subst}
 use Rattle.std.specs.Prelude.{OnOk, List, ℕ}
 use Rattle.std.specs.Arc.{arc_value}
 use Rattle.std.specs.Option.{option_map}

@@ -1,4 +1,4 @@
-use Rattle.std.proofs.Common.{map, true, sym, ap, ◌∙◌, subst}
+use Rattle.std.proofs.Common.{map, true, subst}
 use Rattle.std.specs.Arc.{arc_value}
 use Rattle.std.proofs.lemmas.Result.{on_ok_weaker}
 use Rattle.std.specs.Option.{option_map}

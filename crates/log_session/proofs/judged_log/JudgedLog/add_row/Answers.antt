@@ -1,4 +1,3 @@
-use Rattle.std.proofs.Common.{sym}
 use Rattle.log_reader.specs.Rows.{row_said}
 use Rattle.log_session.proofs.ReadLemmas.{row_of_a_line}
 use Rattle.log_session.proofs.judged_log.JudgedLog.add_row.Goals as goal

@@ -1,4 +1,4 @@
-use Rattle.std.proofs.Common.{sym, ap, ◌∙◌, arith}
+use Rattle.std.proofs.Common.{sym, arith}
 use Rattle.log_table.proofs.TableLemmas.{unknown_closing, closes, kept_closing}
 use Rattle.log_table.proofs.table.LogTable.close.Goals as goal
 

@@ -1,5 +1,4 @@
-use Rattle.std.proofs.Common.{◌≡◌, List, [], ◌∷◌, ◌++◌, length, Option, Some, None, true, false, sym, ap, ◌∙◌, subst, arith, is_some, bytes_eq}
-use Rattle.std.specs.Prelude.{IfSome}
+use Rattle.std.proofs.Common.{◌≡◌, [], ◌∷◌, ◌++◌, length, None, false, sym, ap, ◌∙◌, subst, arith, bytes_eq}
 use Rattle.std.specs.List.{IsDistinct}
 use Rattle.std.specs.Option.{option_map}
 use Rattle.std.specs.Arc.{arc_value}
@@ -65,10 +64,10 @@ invariant_of-self c =
     let known = c.in_ok-session.ensures.0 in
     let session = c.in_ok-session.ensures.2 ∙ ap (λ z. new_session z i.jumps c.in-Some-2.columns.items known) c.in_ok-automaton.ensures in
     let added : c.new-2.result ≡ record { session = new_session a i.jumps c.in-Some-2.columns.items known; last = None } =
-        c.new-2.ensures ∙ ap (λ (x : MonitorSession). record { session = x; last = None }) session in
+    c.new-2.ensures ∙ ap (λ (x : MonitorSession). record { session = x; last = None }) session in
     let grown = c.in-Ok.ensures.entries
-        ∙ insert_entry-new bytes_eq i.sessions c.of-name.result c.new-2.result none
-        ∙ ap (λ (x : Opened). i.sessions.entries ++ (c.of-name.result, x) ∷ []) added in
+    ∙ insert_entry-new bytes_eq i.sessions c.of-name.result c.new-2.result none
+    ∙ ap (λ (x : Opened). i.sessions.entries ++ (c.of-name.result, x) ∷ []) added in
     let distinct : IsDistinct bytes_eq a.variables = rw c.in-Some.is at c.requires.distinct in
     let longer = ap length grown ∙ length_push i.sessions.entries (c.of-name.result, record { session = new_session a i.jumps c.in-Some-2.columns.items known; last = None }) in
     kept_opening i.jumps i.accepted i.sessions.entries c.args.self.now c.self.view_is c.args.name.now c.of-name.result c.of-name.ensures c.args.columns.now none
@@ -88,10 +87,10 @@ returns-in-Ok-clause-ok c =
     let known = c.in_ok-session.ensures.0 in
     let session = c.in_ok-session.ensures.2 ∙ ap (λ z. new_session z i.jumps c.in-Some-2.columns.items known) c.in_ok-automaton.ensures in
     let added : c.new-2.result ≡ record { session = new_session a i.jumps c.in-Some-2.columns.items known; last = None } =
-        c.new-2.ensures ∙ ap (λ (x : MonitorSession). record { session = x; last = None }) session in
+    c.new-2.ensures ∙ ap (λ (x : MonitorSession). record { session = x; last = None }) session in
     let grown = c.in-Ok.ensures.entries
-        ∙ insert_entry-new bytes_eq i.sessions c.of-name.result c.new-2.result none
-        ∙ ap (λ (x : Opened). i.sessions.entries ++ (c.of-name.result, x) ∷ []) added in
+    ∙ insert_entry-new bytes_eq i.sessions c.of-name.result c.new-2.result none
+    ∙ ap (λ (x : Opened). i.sessions.entries ++ (c.of-name.result, x) ∷ []) added in
     opening_told i.jumps i.accepted i.sessions.entries c.args.self.now c.self.view_is c.args.name.now c.of-name.result c.of-name.ensures c.args.columns.now none
     (option_map (λ z. arc_value z.now) c.args.automaton) a (ap (option_map (λ z. arc_value z.now)) c.in-Some.is) c.in-Some-2.columns.items known numbers (omega (arith, len, few))
     c.insert.new.self.entries grown

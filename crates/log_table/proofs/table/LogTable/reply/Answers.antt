@@ -1,4 +1,4 @@
-use Rattle.std.proofs.Common.{◌≡◌, sym, ap, ◌∙◌, subst}
+use Rattle.std.proofs.Common.{sym, ap, ◌∙◌, subst}
 use Rattle.log_table.specs.Tables.{cells_in}
 use Rattle.log_table.specs.Parts.{table_of, IsKept}
 use Rattle.log_table.proofs.TableLemmas.{unknown_sample}
@@ -29,8 +29,8 @@ invariant_of-self-in-Err g c =
     let i = c.self.inside in
     let written = c.get_mut-2.follows.holds c.reply.new.self in
     let same = as_before i.jumps i.accepted i.sessions.entries c.args.self.now c.self.view_is c.self.invariant c.args.name.now c.of.result c.of.ensures c.in-Some.opened.now
-        (sym c.in-Some.ensures.value) c.args.sample.now c.is_full-is_full.result c.is_full-is_full.ensures c.reply.new.self c.in-Err.ensures.err
-        (c.get_mut-2.follows.lender c.reply.new.self).entries written.0 in
+    (sym c.in-Some.ensures.value) c.args.sample.now c.is_full-is_full.result c.is_full-is_full.ensures c.reply.new.self c.in-Err.ensures.err
+    (c.get_mut-2.follows.lender c.reply.new.self).entries written.0 in
     subst (λ es. IsKept i.jumps es i.accepted) (sym same) c.self.invariant
 
 pub returns-in-Ok-clause-ok : goal.returns-in-Ok-clause-ok
@@ -52,6 +52,6 @@ returns-in-Err-clause-err g c =
     let i = c.self.inside in
     let written = c.get_mut-2.follows.holds c.reply.new.self in
     let same = as_before i.jumps i.accepted i.sessions.entries c.args.self.now c.self.view_is c.self.invariant c.args.name.now c.of.result c.of.ensures c.in-Some.opened.now
-        (sym c.in-Some.ensures.value) c.args.sample.now c.is_full-is_full.result c.is_full-is_full.ensures c.reply.new.self c.in-Err.ensures.err
-        (c.get_mut-2.follows.lender c.reply.new.self).entries written.0 in
+    (sym c.in-Some.ensures.value) c.args.sample.now c.is_full-is_full.result c.is_full-is_full.ensures c.reply.new.self c.in-Err.ensures.err
+    (c.get_mut-2.follows.lender c.reply.new.self).entries written.0 in
     ap (λ es. table_of i.jumps es i.accepted) same ∙ c.self.view_is
