@@ -18,6 +18,6 @@ verdict_line number session v = decimal number ++ spoken_of session ++ verdict_w
 abbrev pub refused_line : ℕ → Refusal → List ℕ
 refused_line number why = decimal number ++ codes ",refused," ++ refusal_word why ++ codes "\n"
 
--- the most bytes of a line: 20 digits, 9 bytes of `,refused,` and 7 of a word, or 1 and 10, and a line feed
+-- the most bytes of a line: 20 digits, a comma, a name of 32 bytes, a comma, a word of 10 bytes, and a line feed
 abbrev pub most_bytes : ℕ
-most_bytes = 37
+most_bytes = 65

@@ -1,6 +1,6 @@
 //! The lines of a report.
 
-ghost use Rattle.std.specs.Prelude.{◌≡◌, ◌+◌, ◌≤◌, ◌++◌, [], IfOk, OnOk, OnErr, Option, None, Some, length, codes, decimal};
+ghost use Rattle.std.specs.Prelude.{◌≡◌, ◌+◌, ◌≤◌, ◌++◌, [], IfOk, IfSome, OnOk, OnErr, Option, None, Some, length, codes, decimal};
 ghost use Rattle.std.specs.Option.{option_map};
 ghost use Rattle.std.specs.Vec.{vec_len, vec_capacity};
 ghost use Rattle.alarm_report.specs.ReportLines.{verdict_line, refused_line, spoken_of, most_bytes};
@@ -11,8 +11,8 @@ use log_specs::Refusal;
 use run_specs::Verdict;
 use std::alloc::{AllocError, Global};
 
-/// The most bytes that a line takes that speaks of no session.
-const MOST_BYTES: usize = 37;
+/// The most bytes that a line takes.
+const MOST_BYTES: usize = 65;
 
 /// Adds bytes for which there is room.
 fn put(blocks: &mut Vec<u8>, bytes: &[u8])
@@ -36,7 +36,7 @@ fn put_number(blocks: &mut Vec<u8>, number: u64)
     put(blocks, buffer.format(number).as_bytes());
 }
 
-/// Makes room for one line that speaks of no session.
+/// Makes room for one line, without a run behind it.
 ///
 /// # Errors
 ///
@@ -48,13 +48,19 @@ pub fn reserve_line(blocks: &mut Vec<u8>) -> Result<(), AllocError>
     blocks.reserve(MOST_BYTES)
 }
 
-/// Adds the line of an accepted sample of `check`, for which there is room. Takes no memory.
-pub fn put_line(blocks: &mut Vec<u8>, line: u64, verdict: Verdict)
-    requires { vec_len blocks.old + most_bytes ≤ vec_capacity blocks.old }
-    ensures { blocks.new.items ≡ blocks.old.items ++ verdict_line line None verdict }
+/// Adds the line of an accepted sample, for which there is room: of `check` without a session, of `watch` with its session's name of at
+/// most 32 bytes. Takes no memory.
+pub fn put_line(blocks: &mut Vec<u8>, line: u64, session: Option<&[u8]>, verdict: Verdict)
+    requires room { vec_len blocks.old + most_bytes ≤ vec_capacity blocks.old }
+    requires short { IfSome session (λ name. length name.now ≤ 32) }
+    ensures { blocks.new.items ≡ blocks.old.items ++ verdict_line line (option_map (λ name. name.now) session.entry) verdict }
 {
     put_number(blocks, line);
     put(blocks, b",");
+    if let Some(name) = session {
+        put(blocks, name);
+        put(blocks, b",");
+    }
     put(blocks, verdict_text(verdict));
     put(blocks, b"\n");
 }
@@ -70,7 +76,7 @@ pub fn put_refusal(blocks: &mut Vec<u8>, line: u64, refusal: Refusal)
     put(blocks, b"\n");
 }
 
-/// The line of an accepted sample: of `check` without a session, of `watch` with its session's name.
+/// The line of an accepted sample: of `check` without a session, of `watch` with its session's name of at most 32 bytes.
 ///
 /// # Errors
 ///
@@ -81,18 +87,12 @@ pub fn line_for(
     session: Option<&[u8]>,
     verdict: Verdict,
 ) -> Result<Vec<u8>, AllocError>
+    requires short { IfSome session (λ name. length name.now ≤ 32) }
     ensures { IfOk result (λ v. v.items ≡ verdict_line line (option_map (λ name. name.now) session.entry) verdict) }
 {
     let mut bytes = Vec::new(alloc);
     reserve_line(&mut bytes)?;
-    put_number(&mut bytes, line);
-    put(&mut bytes, b",");
-    if let Some(name) = session {
-        bytes.extend_from_slice(name)?;
-        bytes.extend_from_slice(b",")?;
-    }
-    bytes.extend_from_slice(verdict_text(verdict))?;
-    bytes.extend_from_slice(b"\n")?;
+    put_line(&mut bytes, line, session, verdict);
     Ok(bytes)
 }
 

@@ -9,7 +9,7 @@ use Rattle.clap.specs.Simple.{Shape, built, entered}
 use Rattle.clap.specs.Kinds.{Kinds, or_else}
 use Rattle.clap.specs.Faults.{bundle_fault, check_fault, defaults_fault, entered_fault, flag_word_fault, settle_fault, step_fault, turn_fault, walk_fault, word_fault}
 use Rattle.clap.proofs.OnLiterals.{clap_on_literals}
-use Rattle.command_words.specs.CommandLine.{Request, command_line, plain_check, request_in, request_of, without_fault}
+use Rattle.command_words.specs.CommandLine.{Request, command_by, command_line, default_options, plain_check, plain_watch, request_by, request_in, request_of, without_fault}
 
 -- between two words, where no option waits for its value
 abbrev at : Held → ℕ → Walk
@@ -63,60 +63,97 @@ asked_by_walk : (words : List Text) →
     request_of words ≡ asked_by (walk_fault (built command_line).top [] (walk_from nothing_held) words) (walk (built command_line).top.rules [] nothing_held words)
 asked_by_walk words = refl
 
--- ---- after the word `check`
+-- ---- after a command's word
 
 abbrev form : Shape
 form = (built command_line).top
 
 -- the walk after it
-abbrev behind_check : Walk
-behind_check = walked form.rules [] (walk_from nothing_held) (codes "check")
+abbrev behind_command : Text → Walk
+behind_command command = to_positional form.rules (arg_by_index form.rules 1) command (walk_from nothing_held) nothing_held
+
+command_walk : (command : Text) → starts_with_minus command ≡ false → walked form.rules [] (walk_from nothing_held) command ≡ behind_command command
+unfolding clap_on_literals
+command_walk command d = plain_walked form.rules nothing_held 1 command d
+
+command_turn : (command : Text) → starts_with_minus command ≡ false → turn_fault form [] (walk_from nothing_held) command ≡ []
+unfolding clap_on_literals
+command_turn command d = plain_turn form nothing_held 1 command d
 
 -- the walk after one name more
-abbrev behind_name : Text → Walk
-behind_name name = to_positional form.rules (arg_by_index form.rules 2) name behind_check behind_check.held
+abbrev behind_name : Text → Text → Walk
+behind_name command name = to_positional form.rules (arg_by_index form.rules 2) name (behind_command command) (behind_command command).held
 
-one_walk : (name : Text) → starts_with_minus name ≡ false → walked form.rules [] behind_check name ≡ behind_name name
+name_walk : (command name : Text) → starts_with_minus name ≡ false → walked form.rules [] (behind_command command) name ≡ behind_name command name
 unfolding clap_on_literals
-one_walk name e = plain_walked form.rules behind_check.held 2 name e
+name_walk command name e = plain_walked form.rules (behind_command command).held 2 name e
 
-one_turn : (name : Text) → starts_with_minus name ≡ false → turn_fault form [] behind_check name ≡ []
+name_turn : (command name : Text) → starts_with_minus name ≡ false → turn_fault form [] (behind_command command) name ≡ []
 unfolding clap_on_literals
-one_turn name e = plain_turn form behind_check.held 2 name e
+name_turn command name e = plain_turn form (behind_command command).held 2 name e
 
-one_fault : (name : Text) → starts_with_minus name ≡ false → walk_fault form [] (walk_from nothing_held) (codes "check" ∷ name ∷ []) ≡ []
+one_walk : (command name : Text) → starts_with_minus command ≡ false → starts_with_minus name ≡ false →
+    walk form.rules [] nothing_held (command ∷ name ∷ []) ≡ behind_name command name
+one_walk command name d e = ap (λ w. walked form.rules [] w name) (command_walk command d) ∙ name_walk command name e
+
+one_fault : (command name : Text) → starts_with_minus command ≡ false → starts_with_minus name ≡ false →
+    walk_fault form [] (walk_from nothing_held) (command ∷ name ∷ []) ≡ []
+unfolding walk_fault
+one_fault command name d e =
+    ap₂ (λ (kinds : Kinds) (w : Walk). or_else kinds (or_else (turn_fault form [] w name) [])) (command_turn command d) (command_walk command d)
+    ∙ ap (λ (kinds : Kinds). or_else kinds []) (name_turn command name e)
+
+one_asked : (command name : Text) → asked_by [] (behind_name command name) ≡ request_by (command_by (Some command) (Some name) None) (Some default_options)
 unfolding clap_on_literals
-one_fault name e = ap (λ (kinds : Kinds). or_else kinds []) (one_turn name e)
+one_asked command name = refl
 
-one_asked : (name : Text) → asked_by [] (behind_name name) ≡ Some (plain_check name)
+-- a command's word and a name ask for this command with no option given
+one_name : (command name : Text) → starts_with_minus command ≡ false → starts_with_minus name ≡ false →
+    request_of (command ∷ name ∷ []) ≡ request_by (command_by (Some command) (Some name) None) (Some default_options)
+one_name command name d e =
+    asked_by_walk (command ∷ name ∷ []) ∙ ap₂ asked_by (one_fault command name d e) (one_walk command name d e) ∙ one_asked command name
+
+pub one_check : (name : Text) → starts_with_minus name ≡ false → request_of (codes "check" ∷ name ∷ []) ≡ Some (plain_check name)
 unfolding clap_on_literals
-one_asked name = refl
+one_check name e = one_name (codes "check") name refl e
 
-pub one_name : (name : Text) → starts_with_minus name ≡ false → request_of (codes "check" ∷ name ∷ []) ≡ Some (plain_check name)
-one_name name e = asked_by_walk (codes "check" ∷ name ∷ []) ∙ ap₂ asked_by (one_fault name e) (one_walk name e) ∙ one_asked name
+pub one_watch : (name : Text) → starts_with_minus name ≡ false → request_of (codes "watch" ∷ name ∷ []) ≡ Some (plain_watch name)
+unfolding clap_on_literals
+one_watch name e = one_name (codes "watch") name refl e
 
 -- ---- two names
 
 -- the walk after the second
-abbrev behind_two : Text → Text → Walk
-behind_two name other = to_positional form.rules (arg_by_index form.rules 3) other (behind_name name) (behind_name name).held
+abbrev behind_two : Text → Text → Text → Walk
+behind_two command name other = to_positional form.rules (arg_by_index form.rules 3) other (behind_name command name) (behind_name command name).held
 
-two_walk : (name other : Text) → starts_with_minus name ≡ false → starts_with_minus other ≡ false →
-    walked form.rules [] (walked form.rules [] behind_check name) other ≡ behind_two name other
+two_walk : (command name other : Text) → starts_with_minus command ≡ false → starts_with_minus name ≡ false → starts_with_minus other ≡ false →
+    walk form.rules [] nothing_held (command ∷ name ∷ other ∷ []) ≡ behind_two command name other
 unfolding clap_on_literals
-two_walk name other e f = ap (λ w. walked form.rules [] w other) (one_walk name e) ∙ plain_walked form.rules (behind_name name).held 3 other f
+two_walk command name other d e f =
+    ap (λ w. walked form.rules [] w other) (one_walk command name d e) ∙ plain_walked form.rules (behind_name command name).held 3 other f
 
-two_fault : (name other : Text) → starts_with_minus name ≡ false → starts_with_minus other ≡ false →
-    walk_fault form [] (walk_from nothing_held) (codes "check" ∷ name ∷ other ∷ []) ≡ []
+two_fault : (command name other : Text) → starts_with_minus command ≡ false → starts_with_minus name ≡ false → starts_with_minus other ≡ false →
+    walk_fault form [] (walk_from nothing_held) (command ∷ name ∷ other ∷ []) ≡ []
 unfolding clap_on_literals
-two_fault name other e f =
-    ap₂ (λ (kinds : Kinds) (w : Walk). or_else kinds (or_else (turn_fault form [] w other) [])) (one_turn name e) (one_walk name e)
-    ∙ ap (λ (kinds : Kinds). or_else kinds []) (plain_turn form (behind_name name).held 3 other f)
+two_fault command name other d e f =
+    ap₂ (λ (kinds : Kinds) (w : Walk). or_else kinds (or_else (turn_fault form [] w name) (or_else (turn_fault form [] (walked form.rules [] w name) other) [])))
+    (command_turn command d) (command_walk command d)
+    ∙ ap₂ (λ (kinds : Kinds) (w : Walk). or_else kinds (or_else (turn_fault form [] w other) [])) (name_turn command name e) (name_walk command name e)
+    ∙ ap (λ (kinds : Kinds). or_else kinds []) (plain_turn form (behind_name command name).held 3 other f)
 
-two_asked : (name other : Text) → asked_by [] (behind_two name other) ≡ None
+two_asked : (command name other : Text) → asked_by [] (behind_two command name other) ≡ None
 unfolding clap_on_literals
-two_asked name other = refl
+two_asked command name other = refl
 
-pub two_names : (name other : Text) → starts_with_minus name ≡ false → starts_with_minus other ≡ false → request_of (codes "check" ∷ name ∷ other ∷ []) ≡ None
-two_names name other e f =
-    asked_by_walk (codes "check" ∷ name ∷ other ∷ []) ∙ ap₂ asked_by (two_fault name other e f) (two_walk name other e f) ∙ two_asked name other
+two_names : (command name other : Text) → starts_with_minus command ≡ false → starts_with_minus name ≡ false → starts_with_minus other ≡ false →
+    request_of (command ∷ name ∷ other ∷ []) ≡ None
+two_names command name other d e f =
+    asked_by_walk (command ∷ name ∷ other ∷ []) ∙ ap₂ asked_by (two_fault command name other d e f) (two_walk command name other d e f)
+    ∙ two_asked command name other
+
+pub two_checks : (name other : Text) → starts_with_minus name ≡ false → starts_with_minus other ≡ false → request_of (codes "check" ∷ name ∷ other ∷ []) ≡ None
+two_checks name other e f = two_names (codes "check") name other refl e f
+
+pub two_watches : (name other : Text) → starts_with_minus name ≡ false → starts_with_minus other ≡ false → request_of (codes "watch" ∷ name ∷ other ∷ []) ≡ None
+two_watches name other e f = two_names (codes "watch") name other refl e f

@@ -14,6 +14,8 @@ use Rattle.command_words.specs.declared.options.Options.{Options}
 pub data Command : Type 0 where
   -- a log is checked against the model of this name
   Check : Text → Command
+  -- a log of many sessions is watched, by the automata of the model of this name
+  Watch : Text → Command
 
 -- what words ask for
 pub record Request : Type 0 where
@@ -101,9 +103,16 @@ default_options = record { jumps = 2; workers = 4; window = 64; memo = 10000; ru
 
 -- ---- commands
 
--- the command of these words: `check` takes one more
+-- the command of this word with a model's name
+abbrev pub command_named : Text → Text → Option Command
+command_named command model =
+    if bytes_eq command (codes "check") then Some (Check model)
+    else if bytes_eq command (codes "watch") then Some (Watch model)
+    else None
+
+-- the command of these words: `check` and `watch` take one more
 abbrev pub command_by : Option Text → Option Text → Option Text → Option Command
-command_by (Some command) (Some model) None = if bytes_eq command (codes "check") then Some (Check model) else None
+command_by (Some command) (Some model) None = command_named command model
 command_by _ _ _ = None
 
 -- the command of words of the form
@@ -132,3 +141,7 @@ request_of words = without_fault (fault_of command_line words) (request_in (matc
 -- a check against the model of this name, with no option given
 abbrev pub plain_check : Text → Request
 plain_check name = record { command = Check name; options = default_options }
+
+-- a watch by the model of this name, with no option given
+abbrev pub plain_watch : Text → Request
+plain_watch name = record { command = Watch name; options = default_options }

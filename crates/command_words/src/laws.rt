@@ -2,7 +2,7 @@
 
 ghost use Rattle.std.specs.Prelude.{◌≡◌, ◌↔◌, ◌<◌, ◌≤◌, ◌^◌, ℕ, List, [], ◌∷◌, Some, None, false, codes, decimal};
 ghost use Rattle.std.specs.Str.Parse.{starts_with_minus};
-ghost use Rattle.command_words.specs.CommandLine.{number_in, request_of, plain_check};
+ghost use Rattle.command_words.specs.CommandLine.{number_in, request_of, plain_check, plain_watch};
 
 /// A number in a range has one text, its decimal digits, and a word that is no such text writes none.
 pub fn each_number_has_one_text()
@@ -20,12 +20,23 @@ pub fn each_name_behind_hyphens_is_a_check()
     ensures { (name : List ℕ) → request_of (codes "check" ∷ codes "--" ∷ name ∷ []) ≡ Some (plain_check name) }
 {}
 
-/// No words at all are refused, and so is `check` without a name.
-pub fn too_few_words_are_refused()
-    ensures { (request_of [] ≡ None) × (request_of (codes "check" ∷ []) ≡ None) }
+/// `watch NAME` watches by the model NAME with all defaults, where NAME does not begin with `-`.
+pub fn one_name_is_a_watch()
+    ensures { (name : List ℕ) → starts_with_minus name ≡ false → request_of (codes "watch" ∷ name ∷ []) ≡ Some (plain_watch name) }
 {}
 
-/// `check` with two names is refused.
+/// `watch -- NAME` does so for each NAME.
+pub fn each_name_behind_hyphens_is_a_watch()
+    ensures { (name : List ℕ) → request_of (codes "watch" ∷ codes "--" ∷ name ∷ []) ≡ Some (plain_watch name) }
+{}
+
+/// No words at all are refused, and so are `check` and `watch` without a name.
+pub fn too_few_words_are_refused()
+    ensures { (request_of [] ≡ None) × (request_of (codes "check" ∷ []) ≡ None) × (request_of (codes "watch" ∷ []) ≡ None) }
+{}
+
+/// `check` with two names is refused, and so is `watch`.
 pub fn two_names_are_refused()
-    ensures { (name other : List ℕ) → starts_with_minus name ≡ false → starts_with_minus other ≡ false → request_of (codes "check" ∷ name ∷ other ∷ []) ≡ None }
+    ensures { (name other : List ℕ) → starts_with_minus name ≡ false → starts_with_minus other ≡ false →
+        (request_of (codes "check" ∷ name ∷ other ∷ []) ≡ None) × (request_of (codes "watch" ∷ name ∷ other ∷ []) ≡ None) }
 {}

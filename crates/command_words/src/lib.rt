@@ -1,7 +1,12 @@
 //! The words of `hamon`'s command line.
 //!
-//! `hamon [options] check MODEL` checks a log against the model that MODEL names. The options stand anywhere before a word
-//! `--`, each at most once, as `--jumps 3` or `--jumps=3`; all words after `--` are taken as they are.
+//! | words | what they ask for |
+//! |---|---|
+//! | `hamon [options] check MODEL` | a log is checked against the model that MODEL names |
+//! | `hamon [options] watch MODEL` | a log of many sessions is watched, by the automata of the model that MODEL names |
+//!
+//! Both take the same options. These stand anywhere before a word `--`, each at most once, as `--jumps 3` or `--jumps=3`; all
+//! words after `--` are taken as they are.
 //!
 //! | option | values | default |
 //! |---|---|---|

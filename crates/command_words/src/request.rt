@@ -2,7 +2,7 @@
 ghost use Rattle.std.specs.Prelude.{◌≡◌, map, option_map, string_bytes, Some, None, IfOk, IfErr, IfSome, MatchResult};
 ghost use Rattle.clap.specs.Words.{found_of, rows_of};
 ghost use Rattle.command_words.specs.declared.fault.WordsFault.TheVariants.{Refused, Memory};
-ghost use Rattle.command_words.specs.CommandLine.{command_by, command_of, request_in, request_of, KeepsRanges};
+ghost use Rattle.command_words.specs.CommandLine.{command_by, command_named, command_of, request_in, request_of, KeepsRanges};
 ghost use Rattle.command_words.specs.CommandLine as line;
 ghost use Rattle.command_words.specs.Said.{said_command, said};
 
@@ -17,6 +17,8 @@ use std::alloc::Global;
 pub enum Command<'a> {
     /// A log is checked against the model of this name.
     Check { model: &'a str },
+    /// A log of many sessions is watched, by the automata of the model of this name.
+    Watch { model: &'a str },
 }
 
 /// What the words of a command line ask for.
@@ -24,6 +26,17 @@ pub enum Command<'a> {
 pub struct Request<'a> {
     pub command: Command<'a>,
     pub options: Options,
+}
+
+/// The command of this word with a model's name; `None` where the word is unknown.
+fn command_named<'a>(command: &str, model: &'a str) -> Option<Command<'a>>
+    ensures { option_map said_command result ≡ command_named command.now model.now }
+{
+    match command {
+        "check" => Some(Command::Check { model }),
+        "watch" => Some(Command::Watch { model }),
+        _ => None,
+    }
 }
 
 /// The command of these words; `None` where its word is unknown or wants more or fewer words.
@@ -36,7 +49,7 @@ fn command_by<'a>(
         (option_map (λ w. w.now) first.entry) (option_map (λ w. w.now) second.entry) }
 {
     match (command, first, second) {
-        (Some("check"), Some(model), None) => Some(Command::Check { model }),
+        (Some(command), Some(model), None) => command_named(command, model),
         _ => None,
     }
 }
@@ -64,7 +77,8 @@ fn request_in<'a>(matches: &ArgMatches<'a>) -> Option<Request<'a>>
 
 /// What the words of a command line, without the program's name, ask for.
 ///
-/// `check MODEL` checks a log against the model of this name. The options stand anywhere before a word `--`, each at most
+/// `check MODEL` checks a log against the model of this name, and `watch MODEL` watches a log of many sessions by the automata
+/// of the model of this name. Both take the same options, which stand anywhere before a word `--`, each at most
 /// once, as `--jumps 3` or `--jumps=3`: `--jumps` from 0 to 6 (else 2), `--workers` from 1 to 32 (else 4), `--window` from 1
 /// to 1024 (else 64), `--memo` from 1 to 100000 (else 10000), and `--runs`, which is `none`, `first` or `all` (else `first`).
 /// Numbers are digits without a sign and without a leading zero. After `--` each word is taken as it is; before it a word

@@ -3,6 +3,7 @@ use Rattle.std.proofs.Common.{◌≡◌, ◌≢◌, ℕ, ◌<◌, ◌≤◌, Lis
 use Rattle.std.specs.Prelude.{IfSome, IfOk, IfErr}
 use Rattle.run_specs.specs.Automaton.{Automaton}
 use Rattle.model_specs.specs.Automata.{HasOneOfEachName}
+use Rattle.report_loop.specs.Names.{AreNamedApart}
 use Rattle.text_specs.specs.ModelTexts.{most_bytes, SaysAutomata, TextFault, TooLong, HasFault}
 use Rattle.model_reader.specs.declared.faults.ModelFault.{ModelFault}
 use Rattle.model_reader.specs.declared.faults.ModelFault.TheVariants.{Long}
@@ -76,3 +77,7 @@ if_lacks (Err e) o f g xs told is = lacks_read o f g xs e told is
 pub are_models : (text : List ℕ) (automata : List Automaton) → SaysAutomata text automata → ((others : List Automaton) → SaysAutomata text others → automata ≡ others) → 1 ≤ length automata →
     HasOneOfEachName automata → AreModelsOf text automata
 are_models text automata says only some names = record { says = says; only = λ others is. sym (only others is); some = some; names = names }
+
+-- what check_log asks of the names of automata
+pub named_apart : (automata : List Automaton) → HasOneOfEachName automata → AreNamedApart automata
+named_apart automata names = record { names = names.0; variables = λ i a at. (names.1 i a at).variables }

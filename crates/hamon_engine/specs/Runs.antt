@@ -3,14 +3,15 @@ use Rattle.std.specs.Prelude.{◌≡◌, ◌≢◌, ◌⊎◌, ℕ, ◌<◌, Lis
 use Rattle.std.specs.Io.KnownBytes.{Consumes}
 use Rattle.mon_io.specs.Faults.{Rose}
 use Rattle.run_specs.specs.Automaton.{Automaton}
+use Rattle.log_specs.specs.declared.LogForm.{LogForm}
+use Rattle.log_specs.specs.declared.LogForm.TheVariants as form
 use Rattle.log_specs.specs.LogReports.{rules_of}
 use Rattle.text_specs.specs.ModelTexts.{SaysAutomata}
-use Rattle.command_words.specs.CommandLine.{Command, Check, Request}
-use Rattle.command_words.specs.declared.options.Options.{Options}
+use Rattle.command_words.specs.CommandLine.{Command, Check, Watch, Request}
 use Rattle.report_loop.specs.declared.status.Status.{Status}
 use Rattle.report_loop.specs.declared.status.Status.TheVariants as status
-use Rattle.report_loop.specs.Tasks.{check_task}
-use Rattle.report_loop.specs.Outcome.{Streams, Says, IsUntouched, log_limit}
+use Rattle.report_loop.specs.Tasks.{log_task}
+use Rattle.report_loop.specs.Outcome.{Streams, HasEnded, Says, IsUntouched, log_limit}
 
 -- the log, the output and the shelf, before or after a run
 pub record Outside : Type 0 where
@@ -21,6 +22,12 @@ pub record Outside : Type 0 where
 -- the name of a command's model
 abbrev pub model_of : Command → List ℕ
 model_of (Check model) = model
+model_of (Watch model) = model
+
+-- how a command's log is read
+abbrev pub form_of : Command → LogForm
+form_of (Check model) = form.Check
+form_of (Watch model) = form.Watch
 
 -- the text of the model that words ask for, where they ask for one and the shelf tells it
 abbrev pub model_text : (List ℕ → Option (List ℕ)) → Option Request → Option (List ℕ)
@@ -38,16 +45,16 @@ pub record RefusesText (before now : Outside) (s : Status) : Type 0 where
   pub untouched : IsUntouched before.streams now.streams
   pub why : (s ≡ status.Model) ⊎ HasNoModel before now s
 
--- what a run does with a model's text: the report of the log for its automata, or a refusal
-pub record RunsText (before now : Outside) (s : Status) (options : Options) (text : List ℕ) : Type 0 where
+-- what a run does with a model's text: the report of the command's log for its automata, or a refusal
+pub record RunsText (before now : Outside) (s : Status) (r : Request) (text : List ℕ) : Type 0 where
   pub reports : (automata : List Automaton) → SaysAutomata text automata →
-      Says (rules_of (check_task automata options.jumps)) before.streams now.streams s ⊎ HasNoModel before now s
+      Says (rules_of (log_task (form_of r.command) automata r.options.jumps)) before.streams now.streams s ⊎ HasNoModel before now s
   pub refuses : ((automata : List Automaton) → SaysAutomata text automata → ⊥) → RefusesText before now s
 
 -- what a run does with what its words ask for; None: they are refused
 abbrev pub RunsWords : Outside → Outside → Status → Option Request → Type 0
 RunsWords before now s None = IsUntouched before.streams now.streams × ((s ≡ status.Words) ⊎ (s ≡ status.Memory))
-RunsWords before now s (Some r) = (s ≢ status.Words) × IfSome (before.shelf (model_of r.command)) (RunsText before now s r.options)
+RunsWords before now s (Some r) = (s ≢ status.Words) × IfSome (before.shelf (model_of r.command)) (RunsText before now s r)
 
 -- ---- completeness
 
@@ -70,14 +77,21 @@ Completes before now s (Some r) =
 
 -- ---- causes
 
--- the causes of a status, also where no bytes are told
+-- as many bytes of the log were read as are read at most
+pub record ReadsMost (before now : Streams) : Type 0 where
+  pub read : List ℕ
+  pub consumed : Consumes before.log now.log read
+  pub most : length read ≡ log_limit
+
+-- the causes of a status, also where no bytes are told. The other statuses do not come: no command gives them
 abbrev pub HasCause : Outside → Outside → Status → Type 0
 HasCause before now status.ReadFault = Rose before.streams.log_faults now.streams.log_faults ⊎ Rose before.shelf_faults now.shelf_faults
 HasCause before now status.WriteFault = Rose before.streams.out_faults now.streams.out_faults
 HasCause before now status.Words = IsUntouched before.streams now.streams
 HasCause before now status.Model = IsUntouched before.streams now.streams
-HasCause before now status.Clean = ⊤
-HasCause before now status.Alarm = ⊤
-HasCause before now status.Overflow = ⊤
-HasCause before now status.Limit = ⊤
+HasCause before now status.Clean = HasEnded before.streams now.streams
+HasCause before now status.Alarm = HasEnded before.streams now.streams
+HasCause before now status.Overflow = HasEnded before.streams now.streams
+HasCause before now status.Limit = ReadsMost before.streams now.streams
 HasCause before now status.Memory = ⊤
+HasCause before now _ = ⊥

@@ -1,28 +1,30 @@
 //! The top call.
-ghost use Rattle.std.specs.Prelude.{◌≡◌, ◌≤◌, length, map, string_bytes, Some};
+ghost use Rattle.std.specs.Prelude.{◌≡◌, ◌≤◌, map, string_bytes, Some};
 ghost use Rattle.std.specs.Arc.{arc_value};
+ghost use Rattle.log_specs.specs.declared.LogForm.TheVariants as LogForm;
 ghost use Rattle.log_specs.specs.LogReports.{rules_of};
-ghost use Rattle.model_specs.specs.Automata.{HasOneOfEachName};
 ghost use Rattle.report_loop.specs.Outcome.{Says};
-ghost use Rattle.report_loop.specs.Tasks.{check_task};
+ghost use Rattle.report_loop.specs.Names.{AreNamedApart};
+ghost use Rattle.report_loop.specs.Tasks.{log_task};
 ghost use Rattle.command_words.specs.CommandLine.{request_of};
 ghost use Rattle.command_words.specs.Said.{said_command, said};
-ghost use Rattle.hamon_engine.specs.Runs.{model_of, model_text, RunsWords, Completes, HasCause};
+ghost use Rattle.hamon_engine.specs.Runs.{model_of, form_of, model_text, RunsWords, Completes, HasCause};
 ghost use Rattle.hamon_engine.specs.Telling.{status_of, ended_by, IsTellable, IsTold};
 
 use crate::models::{NoModels, models_from};
 use crate::telling::{Ended, tell};
 use command_words::{Command, Options, Request, WordsFault, read_words};
 use lha_model::Automaton;
+use log_specs::LogForm;
 use mon_io::{Shelf, Sink, Source};
 use report_loop::{Status, report_log};
 use std::alloc::Global;
 use std::sync::Arc;
 
-/// Checks a log against the first of some automata, and writes its report, without the lines of runs.
+/// Checks a log of one session against the first of some automata, and writes its report, without the lines of runs.
 ///
-/// There is at least one automaton. No two of them have one name, nor two variables or two locations of one of them, as in a
-/// model's text. It returns whenever the source and the sink do.
+/// No two of them have one name, nor two variables of one of them, as in a model's text. It returns whenever the source and the sink
+/// do.
 pub fn check_log<L: Source, O: Sink>(
     alloc: Global,
     models: &[Arc<Automaton>],
@@ -30,15 +32,56 @@ pub fn check_log<L: Source, O: Sink>(
     log: &mut L,
     out: &mut O,
 ) -> Status
-    requires some { 1 ≤ length models.now }
-    requires names { HasOneOfEachName (map (λ a. arc_value a) models.now) }
+    requires names { AreNamedApart (map (λ a. arc_value a) models.now) }
     requires jumps { options.now.jumps ≤ 6 }
-    ensures { Says (rules_of (check_task (map (λ a. arc_value a) models.now) options.now.jumps))
+    ensures { Says (rules_of (log_task LogForm.Check (map (λ a. arc_value a) models.now) options.now.jumps))
         (record { log = L.told log.old; log_faults = L.faults log.old; out = O.taken out.old; out_faults = O.faults out.old })
         (record { log = L.told log.new; log_faults = L.faults log.new; out = O.taken out.new; out_faults = O.faults out.new })
         result }
 {
-    report_log(alloc, models, options.jumps, log, out)
+    report_log(alloc, LogForm::Check, models, options.jumps, log, out)
+}
+
+/// Watches a log of many sessions, each of one of some automata, and writes its report, without the lines of runs.
+///
+/// No two of them have one name, nor two variables of one of them, as in a model's text. It returns whenever the source and the sink
+/// do.
+pub fn watch_logs<L: Source, O: Sink>(
+    alloc: Global,
+    models: &[Arc<Automaton>],
+    options: &Options,
+    log: &mut L,
+    out: &mut O,
+) -> Status
+    requires names { AreNamedApart (map (λ a. arc_value a) models.now) }
+    requires jumps { options.now.jumps ≤ 6 }
+    ensures { Says (rules_of (log_task LogForm.Watch (map (λ a. arc_value a) models.now) options.now.jumps))
+        (record { log = L.told log.old; log_faults = L.faults log.old; out = O.taken out.old; out_faults = O.faults out.old })
+        (record { log = L.told log.new; log_faults = L.faults log.new; out = O.taken out.new; out_faults = O.faults out.new })
+        result }
+{
+    report_log(alloc, LogForm::Watch, models, options.jumps, log, out)
+}
+
+/// Reports the log of a command for some automata.
+fn report<L: Source, O: Sink>(
+    alloc: Global,
+    request: &Request<'_>,
+    models: &[Arc<Automaton>],
+    log: &mut L,
+    out: &mut O,
+) -> Status
+    requires names { AreNamedApart (map (λ a. arc_value a) models.now) }
+    requires jumps { request.now.options.jumps ≤ 6 }
+    ensures { Says (rules_of (log_task (form_of (said_command request.now.command)) (map (λ a. arc_value a) models.now) request.now.options.jumps))
+        (record { log = L.told log.old; log_faults = L.faults log.old; out = O.taken out.old; out_faults = O.faults out.old })
+        (record { log = L.told log.new; log_faults = L.faults log.new; out = O.taken out.new; out_faults = O.faults out.new })
+        result }
+{
+    match request.command {
+        Command::Check { .. } => check_log(alloc, models, &request.options, log, out),
+        Command::Watch { .. } => watch_logs(alloc, models, &request.options, log, out),
+    }
 }
 
 /// The name of a command's model.
@@ -46,7 +89,7 @@ fn model_of<'a>(command: Command<'a>) -> &'a str
     ensures { result.now ≡ model_of (said_command command.entry) }
 {
     match command {
-        Command::Check { model } => model,
+        Command::Check { model } | Command::Watch { model } => model,
     }
 }
 
@@ -81,7 +124,7 @@ fn do_request<S: Shelf, L: Source, O: Sink>(
     ensures tellable { IsTellable (model_text (S.text shelf.old) (Some (said request.now))) result }
 {
     match models_from(alloc, shelf, model_of(request.command)) {
-        Ok(models) => Ended::At(check_log(alloc, &models, &request.options, log, out)),
+        Ok(models) => Ended::At(report(alloc, request, &models, log, out)),
         Err(why) => ended_without(why),
     }
 }
@@ -113,7 +156,8 @@ fn do_words<S: Shelf, L: Source, O: Sink>(
 
 /// Runs `hamon` on the words of its command line, without the program's name.
 ///
-/// `check MODEL` reads the model's text from the shelf and the log from its source, and writes the report of the log to `out`.
+/// `check MODEL` and `watch MODEL` read the model's text from the shelf and the log from its source, and write the report of the log
+/// to `out`: of one session, or of many.
 /// One line on `diag` tells why a run ended early. Only want of memory is answered freely.
 pub fn run<S: Shelf, L: Source, O: Sink, D: Sink>(
     alloc: Global,
@@ -135,7 +179,7 @@ pub fn run<S: Shelf, L: Source, O: Sink, D: Sink>(
         (record { streams = record { log = L.told log.new; log_faults = L.faults log.new; out = O.taken out.new; out_faults = O.faults out.new }; shelf = S.text shelf.new; shelf_faults = S.faults shelf.new })
         result (request_of (map string_bytes words.now)) }
 
-    // A fault is blamed only where a count rose.
+    // Each status has its cause: a fault is blamed only where a count rose, and a status that no command gives does not come.
     ensures cause { HasCause
         (record { streams = record { log = L.told log.old; log_faults = L.faults log.old; out = O.taken out.old; out_faults = O.faults out.old }; shelf = S.text shelf.old; shelf_faults = S.faults shelf.old })
         (record { streams = record { log = L.told log.new; log_faults = L.faults log.new; out = O.taken out.new; out_faults = O.faults out.new }; shelf = S.text shelf.new; shelf_faults = S.faults shelf.new })

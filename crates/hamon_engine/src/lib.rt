@@ -5,7 +5,7 @@ mod command;
 mod models;
 mod telling;
 
-pub use command::{check_log, run};
+pub use command::{check_log, run, watch_logs};
 pub use command_words::{Options, RunsMode};
 pub use report_loop::Status;
 

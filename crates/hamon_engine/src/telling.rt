@@ -1,7 +1,7 @@
 //! The line that tells why a run ended.
 ghost use Rattle.std.specs.Prelude.{◌≡◌, ◌⊎◌, List, ℕ, Option};
 ghost use Rattle.report_loop.specs.declared.status.Status.TheVariants as status;
-ghost use Rattle.hamon_engine.specs.Telling.{cause_line, status_of, IsTellable, IsLineTold, IsTold};
+ghost use Rattle.hamon_engine.specs.Telling.{status_of, IsTellable, IsLineTold, IsTold};
 
 use mon_io::{Sink, SinkFault};
 use report_loop::{Status, write_all};
@@ -9,24 +9,10 @@ use report_loop::{Status, write_all};
 /// How a run ended.
 #[derive(Drop)]
 pub(crate) enum Ended {
-    /// With this status, and not since a model's text is refused.
+    /// With this status, whose own line tells why.
     At(Status),
     /// Since the model's text is refused, with the line that tells why.
     Refused(Vec<u8>),
-}
-
-/// The line that tells the cause of a status; empty where there is nothing to tell, or where only the model's text tells it.
-fn cause_line(ended: Status) -> &'static str
-    ensures { result.now ≡ cause_line ended }
-{
-    match ended {
-        Status::Clean | Status::Alarm | Status::Overflow | Status::Model => "",
-        Status::Words => "hamon: words\n",
-        Status::ReadFault => "hamon: read fault\n",
-        Status::WriteFault => "hamon: write fault\n",
-        Status::Memory => "hamon: memory\n",
-        Status::Limit => "hamon: limit\n",
-    }
 }
 
 /// Writes the line that tells the cause of a status. Where a write fails the rest of the line is dropped; want of memory becomes
@@ -48,7 +34,7 @@ pub(crate) fn tell<D: Sink>(diag: &mut D, ended: &Ended) -> Status
     ensures told { (text : Option (List ℕ)) → IsTellable text ended.now → IsTold text (D.taken diag.old) (D.taken diag.new) (D.faults diag.old) (D.faults diag.new) result }
 {
     match ended {
-        Ended::At(status) => tell_line(diag, cause_line(*status).as_bytes(), *status),
+        Ended::At(status) => tell_line(diag, status.line().as_bytes(), *status),
         Ended::Refused(line) => tell_line(diag, line, Status::Model),
     }
 }

@@ -389,12 +389,34 @@ fn many_samples_are_judged(rt: HostRuntime) -> Result<(), Fail> {
     Ok(())
 }
 
+/// Rows of many sessions, each once in each way that it can be taken or refused.
+const WATCHED: &str =
+    "open,a,T,x\nopen,b,T,x\nat,a,0,0\nat,b,0,0\nat,a,4,6\nat,b,1,3\nat,a,10,6\nopen,a,T,x\nclose,b\nat,b,2,3\nclose,b\nopen,b,T\nat,b,1,\nat,c,1,1\nopen,c,U\nopen,c,T,y\nflush\nflush,1\nat,a,10,6\nat,a,x,6\n";
+
+const WATCHED_REPORT: &str =
+    "3,a,safe\n4,b,safe\n5,a,safe\n6,b,impossible\n7,a,alarm\n8,refused,again\n10,refused,unknown\n11,refused,unknown\n13,refused,cells\n14,refused,unknown\n15,refused,unknown\n16,refused,column\n18,refused,fields\n19,refused,time\n20,refused,number\n";
+
+#[test]
+fn many_sessions_are_watched(rt: HostRuntime) -> Result<(), Fail> {
+    let wanted = (Status::Alarm, WATCHED_REPORT);
+    expect_report(
+        &rt,
+        rt.alloc(),
+        &["watch", "M"],
+        LEVEL,
+        WATCHED.as_bytes(),
+        wanted,
+    )?;
+    Ok(())
+}
+
 /// Words that are refused.
 const REFUSED_WORDS: &[&[&str]] = &[
     &[],
     &["check"],
     &["check", "M", "M"],
-    &["watch", "M"],
+    &["watch"],
+    &["watch", "M", "M"],
     &["--jumps", "7", "check", "M"],
     &["--jumps=02", "check", "M"],
     &["check", "M", "--runs", "most"],

@@ -1,8 +1,5 @@
-pub mod ColumnLemmas
-pub mod CellLemmas
-pub mod TimeLemmas
 pub mod ToldLemmas
-pub mod HeaderLemmas
-pub mod SampleLemmas
+pub mod ReadLemmas
 pub mod LineLemmas
-pub mod RefusalLemmas
+pub mod HeaderLemmas
+pub mod RowLemmas

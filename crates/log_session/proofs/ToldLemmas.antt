@@ -1,16 +1,23 @@
 -- What a line does is told by a block that it may have.
-use Rattle.std.proofs.Common.{◌≡◌, ℕ, List, [], ◌∷◌, ◌++◌, length, Bool, true, false, ◌||◌, Option, Some, None, refl, sym, ap, ◌∙◌, subst}
+use Rattle.std.proofs.Common.{◌≡◌, ℕ, List, [], ◌∷◌, ◌++◌, Bool, true, false, ◌||◌, Option, refl, sym, ap, ◌∙◌, subst}
 use Rattle.std.specs.Prelude.{codes, decimal}
 use Rattle.std.proofs.lemmas.List.{append-nil}
 use Rattle.run_specs.specs.Automaton.{Automaton}
 use Rattle.run_specs.specs.declared.Verdict.{Verdict}
-use Rattle.run_specs.specs.Sessions.{MonitorSession}
-use Rattle.log_specs.specs.declared.Refusal.{Refusal}
-use Rattle.log_specs.specs.LogSessions.{LogSession, Judgement, passed_over, refused, opened}
-use Rattle.log_specs.specs.Blocks.{Task, refusal_word}
-use Rattle.log_session.specs.Progress.{Progress, progress_after}
-use Rattle.log_session.specs.Parts.{log_session_of, progress_of}
-use Rattle.log_session.specs.Told.{Tells}
+use Rattle.run_specs.specs.Verdicts.{IsLawful}
+use Rattle.log_specs.specs.declared.LogForm.{LogForm}
+use Rattle.log_specs.specs.declared.RunsMode.{RunsMode}
+use Rattle.log_specs.specs.declared.RunsMode.TheVariants as mode
+use Rattle.log_specs.specs.LogRows.{Cells}
+use Rattle.log_specs.specs.LogSessions.{LogState, Judgement, passed_over, opened, closed, flushed, accepted, judge_opening, judge_closing, judge_sample, session_of}
+use Rattle.log_specs.specs.Blocks.{Task, last_of, wants_run, IsRunPart, IsAnswered, subject, verdict_word, is_alarm}
+use Rattle.alarm_report.specs.ReportLines.{spoken_of, verdict_line}
+use Rattle.log_table.specs.declared.not_taken.NotTaken.{NotTaken}
+use Rattle.log_table.specs.Refusals.{IsNotTaken}
+use Rattle.log_table.specs.Tables.{Table, state_with, IsOpening, IsClosing, IsAccepted}
+use Rattle.log_session.specs.Progress.{Progress, IsTaskOf, is_overflow, progress_after}
+use Rattle.log_session.specs.Parts.{progress_of}
+use Rattle.log_session.specs.Told.{Tells, TellsOpening, TellsClosing, TellsSample, IsToldBy}
 
 pub or_false : (x : Bool) → (x || false) ≡ x
 or_false true = refl
@@ -37,58 +44,99 @@ pub passed_told : (task : Task) (p : Progress) (number : ℕ) (bytes : List ℕ)
 passed_told task p number bytes =
     record { block = []; replies = []; grown = sym (append-nil bytes); is_block = (refl, refl); next = no_reply p }
 
--- ---- a refused line
+-- ---- by the table
 
-module _ (a : Automaton) (k : ℕ) (session : Option MonitorSession) (last : Option Verdict) where
-  refused_next : (b x y : Bool) (e : Refusal) → progress_of a k true session last x y ≡ progress_after (progress_of a k b session last x y) (refused e) []
-  refused_next b true true e = refl
-  refused_next b true false e = refl
-  refused_next b false true e = refl
-  refused_next b false false e = refl
+module _ (form : LogForm) (models : List Automaton) (t : Table) (b : Bool) where
+  abbrev old : Bool → Bool → Progress
+  old x y = progress_of form models t b x y
 
-  pub refusal_told : (task : Task) (b x y : Bool) (number : ℕ) (e : Refusal) (before after : List ℕ) →
-      after ≡ before ++ (decimal number ++ codes ",refused," ++ refusal_word e ++ codes "\n") →
-      Tells task (progress_of a k b session last x y) (progress_of a k true session last x y) number (refused e) before after
-  refusal_told task b x y number e before after grown = record {
-    block = decimal number ++ codes ",refused," ++ refusal_word e ++ codes "\n";
+  abbrev new : Table → Bool → Bool → Progress
+  new u x y = progress_of form models u true x y
+
+  pub opening_told : (u : Table) (x y : Bool) (number : ℕ) (name : List ℕ) (columns : List (List ℕ)) (a : Option Automaton) (bytes : List ℕ) → IsOpening t u name columns a →
+      TellsOpening (old x y) (new u x y) number name columns a bytes bytes
+  opening_told u x y number name columns a bytes h = λ task is.
+      told_as task (old x y) (new u x y) number (judge_opening (state_with b t) name columns a (session_of (state_with b t) name)) (opened h.session) bytes bytes (h.judged b)
+      (record {
+        block = [];
+        replies = [];
+        grown = sym (append-nil bytes);
+        is_block = (refl, refl);
+        next =
+            let table = h.next in
+            let alarm = or_false x in
+            let overflow = or_false y in
+            cc (table, alarm, overflow);
+      })
+
+  pub closing_told : (u : Table) (x y : Bool) (number : ℕ) (name bytes : List ℕ) → IsClosing t u name → TellsClosing (old x y) (new u x y) number name bytes bytes
+  closing_told u x y number name bytes h = λ task is.
+      told_as task (old x y) (new u x y) number (judge_closing name (session_of (state_with b t) name)) (closed name) bytes bytes (h.judged b)
+      (record {
+        block = [];
+        replies = [];
+        grown = sym (append-nil bytes);
+        is_block = (refl, refl);
+        next =
+            let table = h.next in
+            let alarm = or_false x in
+            let overflow = or_false y in
+            cc (table, alarm, overflow);
+      })
+
+  pub flush_told : (task : Task) (x y : Bool) (number : ℕ) (bytes : List ℕ) → Tells task (old x y) (new t x y) number flushed bytes bytes
+  flush_told task x y number bytes = record {
+    block = [];
     replies = [];
-    grown = grown;
+    grown = sym (append-nil bytes);
     is_block = (refl, refl);
-    next = refused_next b x y e;
+    next =
+        let alarm = or_false x in
+        let overflow = or_false y in
+        cc (alarm, overflow);
   }
 
--- ---- a header
+  no_run : (r : RunsMode) (last : Option Verdict) (v : Verdict) → r ≡ mode.None → wants_run r last v ≡ false
+  no_run r last v e = ap (λ m. wants_run m last v) e
 
--- the session that a header opens
-abbrev pub fresh : Automaton → List (List ℕ) → LogSession
-fresh a names = record { name = []; automaton = a; columns = names; samples = [] }
+  module _ (u : Table) (x y : Bool) (number : ℕ) (name : List ℕ) (cells : Cells) (v : Verdict) (h : IsAccepted t u name cells v) (said : Option (List ℕ)) (says : spoken_of said ≡ subject form name)
+      (alarm overflow : Bool) (is_one : alarm ≡ is_alarm v) (is_other : overflow ≡ is_overflow v) where
+    abbrev line : List ℕ
+    line = verdict_line number said v
 
-abbrev just_opened : Automaton → ℕ → Bool → Bool → LogSession → Progress
-just_opened a k x y s = record {
-  automaton = a;
-  jumps = k;
-  known = record {
-    state = record { open_sessions = s ∷ []; accepted = length s.samples; has_begun = true };
-    replied = record { session = []; reply = None } ∷ [];
-  };
-  has_alarm = x;
-  has_overflow = y;
-}
+    answered : (task : Task) → IsTaskOf task (old x y) → IsAnswered task (last_of t.replied h.session.name) number h.session h.sample v line
+    answered task is = record {
+      lawful = subst (λ j. IsLawful h.session.automaton j (h.session.samples ++ h.sample ∷ []) v) (sym is.jumps) h.lawful;
+      stays = h.stays;
+      run_part = [];
+      is_run_part = subst (λ w. IsRunPart h.session.automaton task.jumps (h.session.samples ++ h.sample ∷ []) w []) (sym (no_run task.runs _ v is.runs)) refl;
+      bytes =
+          let whole = append-nil (decimal number ++ subject task.form h.session.name ++ verdict_word v ++ codes "\n") in
+          let form = is.form in
+          let named = h.named in
+          cc (whole, form, named, says);
+    }
 
-opened_next : (a : Automaton) (k : ℕ) (names : List (List ℕ)) (b x y : Bool) (s : MonitorSession) → log_session_of s ≡ fresh a names →
-    progress_of a k true (Some s) None x y ≡ progress_after (progress_of a k b None None x y) (opened (fresh a names)) []
-opened_next a k names b true true s e = ap (just_opened a k true true) e
-opened_next a k names b true false s e = ap (just_opened a k true false) e
-opened_next a k names b false true s e = ap (just_opened a k false true) e
-opened_next a k names b false false s e = ap (just_opened a k false false) e
+    pub sample_told : (before after : List ℕ) → after ≡ before ++ line →
+        TellsSample (old x y) (new u (x || alarm) (y || overflow)) number name cells before after
+    sample_told before after grown = λ task is.
+        told_as task (old x y) (new u (x || alarm) (y || overflow)) number (judge_sample (state_with b t) cells (session_of (state_with b t) name)) (accepted h.session h.sample) before after (h.judged b)
+        (record {
+          block = line;
+          replies = v ∷ [];
+          grown = grown;
+          is_block = (v, answered task is, refl);
+          next =
+              let table = h.next in
+              let one = or_false (is_alarm v) in
+              let other = or_false (is_overflow v) in
+              cc (table, one, other, is_one, is_other);
+        })
 
-pub opening_told : (task : Task) (a : Automaton) (k : ℕ) (names : List (List ℕ)) (b x y : Bool) (s : MonitorSession) (number : ℕ) (bytes : List ℕ) →
-    log_session_of s ≡ fresh a names →
-    Tells task (progress_of a k b None None x y) (progress_of a k true (Some s) None x y) number (opened (fresh a names)) bytes bytes
-opening_told task a k names b x y s number bytes e = record {
-  block = [];
-  replies = [];
-  grown = sym (append-nil bytes);
-  is_block = (refl, refl);
-  next = opened_next a k names b x y s e;
-}
+  -- what the table did not take was told of the log
+  pub refused_told : (u : Table) (x y : Bool) (p after_it : Progress) (number : ℕ) (why : NotTaken) (judged : LogState → Judgement) (before after : List ℕ) →
+      old x y ≡ p → u ≡ t → IsNotTaken (λ begun. judged (state_with begun t)) why → IsToldBy (progress_of form models u b x y) after_it number why before after →
+      (task : Task) → Tells task p after_it number (judged p.known.state) before after
+  refused_told u x y p after_it number why judged before after view same h told task =
+      subst (λ (q : Progress). Tells task q after_it number (judged q.known.state) before after) view
+      (subst (λ (z : Table). IsToldBy (progress_of form models z b x y) after_it number why before after) same told task (λ begun. judged (state_with begun t)) h)

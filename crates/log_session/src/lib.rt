@@ -1,10 +1,9 @@
-//! The one log of `check`, judged line by line: each line's block in the report, by one session whose entries are made by a step over
-//! the gap.
+//! A log that is judged line by line: each line's block in the report, by the table of open sessions.
 #![tactic(auto)]
 
-mod checked_log;
-mod columns;
+mod judged_log;
+mod naming;
 mod refusals;
-mod replies;
+mod words;
 
-pub use checked_log::CheckedLog;
+pub use judged_log::JudgedLog;

@@ -1,9 +1,8 @@
 //! The refusal that is told of a line, by what refused it.
 
 ghost use Rattle.std.specs.Prelude.{◌≡◌, Some, None, IfOk, IfErr};
-ghost use Rattle.log_session.specs.Refusals.{row_word, sample_word};
+ghost use Rattle.log_session.specs.Refusals.{row_word};
 
-use live_session::SampleRefusal;
 use log_reader::RowRefusal;
 use log_specs::Refusal;
 use std::alloc::AllocError;
@@ -20,18 +19,5 @@ pub(crate) fn row_refusal(refusal: RowRefusal) -> Result<Refusal, AllocError>
         RowRefusal::Name => Ok(Refusal::Name),
         RowRefusal::Number => Ok(Refusal::Number),
         RowRefusal::Memory => Err(AllocError),
-    }
-}
-
-/// The refusal of a sample that a session did not begin; an error where there was no memory.
-pub(crate) fn sample_refusal(refusal: SampleRefusal) -> Result<Refusal, AllocError>
-    ensures ok { IfOk result (λ why. sample_word refusal ≡ Some why) }
-    ensures err { IfErr result (λ _. sample_word refusal ≡ None) }
-{
-    match refusal {
-        SampleRefusal::Cells => Ok(Refusal::Cells),
-        SampleRefusal::Time => Ok(Refusal::Time),
-        SampleRefusal::Limit => Ok(Refusal::Limit),
-        SampleRefusal::Memory => Err(AllocError),
     }
 }

@@ -11,8 +11,9 @@ use Rattle.run_specs.specs.declared.Verdict.TheVariants as verdict
 use Rattle.report_specs.specs.Lines.{HasNoFeed, unmarked}
 use Rattle.report_specs.specs.Report.{AreBlocks}
 use Rattle.report_specs.proofs.ReportLemmas.{blocks_join}
+use Rattle.log_specs.specs.declared.LogForm.{LogForm}
 use Rattle.log_specs.specs.Blocks.{Task}
-use Rattle.log_specs.specs.LogSessions.{Judgement, first_automaton}
+use Rattle.log_specs.specs.LogSessions.{Judgement}
 use Rattle.log_specs.specs.LogReports.{nothing_known, judgement, rules_of}
 use Rattle.log_reader.specs.declared.line.Line.{Line}
 use Rattle.log_reader.specs.declared.line.Line.TheVariants.{Text, Long, End}
@@ -25,7 +26,7 @@ use Rattle.log_reader.proofs.GivenLemmas.{given_line, given_end, given_whole}
 use Rattle.log_session.specs.Progress.{Progress, at_start, IsTaskOf, progress_after, AddsLine}
 use Rattle.report_loop.specs.declared.status.Status.{Status}
 use Rattle.report_loop.specs.declared.status.Status.TheVariants as status
-use Rattle.report_loop.specs.Tasks.{check_task}
+use Rattle.report_loop.specs.Tasks.{log_task}
 use Rattle.report_loop.specs.Outcome.{Streams, Wrote, HasEnded, CoversAll, CoversWhole, CoversSome, AllTold, SomeAlarm, OnlyOverflow, Says, SaysBut, WriteSays, log_limit}
 use Rattle.report_loop.specs.Turns.{AddsBlock, is_line, Tells, IsReporting, IsReportingAt, GivesOne, FlushSays, status_at_end, status_for, write_status_for}
 use Rattle.report_loop.proofs.FlagLemmas.{tells_more}
@@ -151,7 +152,7 @@ one_block task p q number line old after a = (
 )
 
 still_task : (task : Task) (p q : Progress) (j : Judgement) (here : List Verdict) → q ≡ progress_after p j here → IsTaskOf task p → IsTaskOf task q
-still_task task p q j here e t = subst (λ z. IsTaskOf task z) (sym e) (record { form = t.form; first = t.first; jumps = t.jumps; runs = t.runs })
+still_task task p q j here e t = subst (λ z. IsTaskOf task z) (sym e) (record { form = t.form; models = t.models; jumps = t.jumps; runs = t.runs })
 
 pub goes_on : (task : Task) (before : Streams) (l k o : Option (List ℕ)) (f h w : ℕ) (r new : Reading) (p q : Progress) (pending after got : List ℕ) (line : Line) →
     (i : IsReportingAt task before (streams l f o w) r p pending) → Gets l k r new got → Gives (r.held ++ got) r new line →
@@ -281,10 +282,10 @@ no_flag v = (λ t. absurd (no_both t), λ c. let l = c.1 in absurd (omega (arith
     no_both : false ≡ true → ⊥
     no_both n = cc
 
-started_at : (task : Task) (l o : Option (List ℕ)) (f w : ℕ) (r : Reading) (a : Automaton) (jumps : ℕ) (pending : List ℕ) →
-    r ≡ record { held = []; given = 0; taken = 0; most = log_limit; has_ended = false } → IsTaskOf task (at_start a jumps) → pending ≡ [] →
-    IsReportingAt task (streams l f o w) (streams l f o w) r (at_start a jumps) pending
-started_at task l o f w r a jumps pending is fits none = record {
+started_at : (task : Task) (l o : Option (List ℕ)) (f w : ℕ) (r : Reading) (form : LogForm) (models : List Automaton) (jumps : ℕ) (pending : List ℕ) →
+    r ≡ record { held = []; given = 0; taken = 0; most = log_limit; has_ended = false } → IsTaskOf task (at_start form models jumps) → pending ≡ [] →
+    IsReportingAt task (streams l f o w) (streams l f o w) r (at_start form models jumps) pending
+started_at task l o f w r form models jumps pending is fits none = record {
   read = [];
   consumed = Consumes-nothing l;
   counted = ap (λ (z : Reading). z.taken) is;
@@ -310,19 +311,19 @@ started_at task l o f w r a jumps pending is fits none = record {
     open_yet : r.has_ended ≡ true → ⊥
     open_yet e = no_both_true (sym e ∙ ap (λ (z : Reading). z.has_ended) is)
 
-pub started : (task : Task) (l o : Option (List ℕ)) (f w : ℕ) (k : Stored) (p : Progress) (a : Automaton) (jumps : ℕ) (pending : List ℕ) →
-    k ≡ record { reading = record { held = []; given = 0; taken = 0; most = log_limit; has_ended = false }; dropped = 0 } → p ≡ at_start a jumps → IsTaskOf task (at_start a jumps) → pending ≡ [] →
+pub started : (task : Task) (l o : Option (List ℕ)) (f w : ℕ) (k : Stored) (p : Progress) (form : LogForm) (models : List Automaton) (jumps : ℕ) (pending : List ℕ) →
+    k ≡ record { reading = record { held = []; given = 0; taken = 0; most = log_limit; has_ended = false }; dropped = 0 } → p ≡ at_start form models jumps → IsTaskOf task (at_start form models jumps) → pending ≡ [] →
     IsReporting task (streams l f o w) (streams l f o w) k p pending
-started task l o f w k p a jumps pending is start fits none = (
+started task l o f w k p form models jumps pending is start fits none = (
   k.reading,
   is_own k (ap (λ (z : Stored). z.dropped) is),
   subst (λ z. IsReportingAt task (streams l f o w) (streams l f o w) k.reading z pending) (sym start)
-      (started_at task l o f w k.reading a jumps pending (ap (λ (z : Stored). z.reading) is) fits none),
+      (started_at task l o f w k.reading form models jumps pending (ap (λ (z : Stored). z.reading) is) fits none),
 )
 
--- the task of a log is one of its first automaton
-pub task_fits : (automata : List Automaton) (a : Automaton) (jumps : ℕ) → first_automaton automata ≡ Some a → IsTaskOf (check_task automata jumps) (at_start a jumps)
-task_fits automata a jumps first = record { form = refl; first = first; jumps = refl; runs = refl }
+-- the task of a log is one of its progress
+pub task_fits : (form : LogForm) (automata : List Automaton) (jumps : ℕ) → IsTaskOf (log_task form automata jumps) (at_start form automata jumps)
+task_fits form automata jumps = record { form = refl; models = refl; jumps = refl; runs = refl }
 
 -- nothing was read, and nothing written
 pub nothing_done : (task : Task) (l o : Option (List ℕ)) (f w : ℕ) → Says (rules_of task) (streams l f o w) (streams l f o w) status.Memory

@@ -96,9 +96,7 @@ cut_short rules before l o p f w v n rest status.ReadFault i wrote =
 cut_short rules before l o p f w v n rest status.Limit i wrote =
     (drop n rest, wrote_some rules before l o p f w v n rest _ (covers_map rules before _ rest _ _ (whole_some (HasEnded before (streams l f o w)) (λ read. length read ≡ log_limit)) i) wrote)
 cut_short rules before l o p f w v n rest status.Memory i wrote = (drop n rest, wrote_some rules before l o p f w v n rest _ i wrote)
-cut_short rules before l o p f w v n rest status.WriteFault i wrote = absurd i
-cut_short rules before l o p f w v n rest status.Words i wrote = absurd i
-cut_short rules before l o p f w v n rest status.Model i wrote = absurd i
+cut_short rules before l o p f w v n rest _ i wrote = absurd i
 
 -- all of the rest was written: the status says what it says
 pub all_written : {K : Type 0} (rules : Rules K) (before : Streams) (l o p : Option (List ℕ)) (f w v : ℕ) (rest : List ℕ) (s : Status) →
@@ -109,9 +107,7 @@ all_written rules before l o p f w v rest status.Overflow i wrote = wrote_rest r
 all_written rules before l o p f w v rest status.ReadFault i wrote = wrote_rest rules before l o p f w v rest _ i wrote
 all_written rules before l o p f w v rest status.Limit i wrote = wrote_rest rules before l o p f w v rest _ i wrote
 all_written rules before l o p f w v rest status.Memory i wrote = ([], wrote_rest rules before l o p f w v rest _ i wrote)
-all_written rules before l o p f w v rest status.WriteFault i wrote = absurd i
-all_written rules before l o p f w v rest status.Words i wrote = absurd i
-all_written rules before l o p f w v rest status.Model i wrote = absurd i
+all_written rules before l o p f w v rest _ i wrote = absurd i
 
 pub write_failed : {K : Type 0} (rules : Rules K) (before : Streams) (l o p : Option (List ℕ)) (f w v : ℕ) (rest after : List ℕ) (s : Status) (x : SinkFault) → before.out_faults ≤ w →
     SaysBut rules before (streams l f o w) rest s → WriteSays o p w v rest after (Err x) → Says rules before (streams l f p v) (write_status_for x)

@@ -74,17 +74,15 @@ AllTold replies = NoAlarm replies × (Contains replies verdict.Overflow → ⊥)
 abbrev pub ReportsSome : {K : Type 0} → Rules K → Streams → Streams → Type 0
 ReportsSome rules before now = (rest : List ℕ) × Wrote rules before now rest (CoversSome (HasEnded before now))
 
--- what a status says of a report of which the rest is not written yet
+-- what a status says of a report of which the rest is not written yet. No other status comes of a reading
 abbrev pub SaysBut : {K : Type 0} → Rules K → Streams → Streams → List ℕ → Status → Type 0
 SaysBut rules before now rest status.Clean = Wrote rules before now rest (CoversAll (HasEnded before now) AllTold)
 SaysBut rules before now rest status.Alarm = Wrote rules before now rest (CoversAll (HasEnded before now) SomeAlarm)
 SaysBut rules before now rest status.Overflow = Wrote rules before now rest (CoversAll (HasEnded before now) OnlyOverflow)
 SaysBut rules before now rest status.ReadFault = Wrote rules before now rest (CoversWhole (λ _. Rose before.log_faults now.log_faults))
 SaysBut rules before now rest status.Limit = Wrote rules before now rest (CoversWhole (λ read. length read ≡ log_limit))
-SaysBut rules before now rest status.WriteFault = ⊥
 SaysBut rules before now rest status.Memory = Wrote rules before now rest (CoversSome (HasEnded before now))
-SaysBut rules before now rest status.Words = ⊥
-SaysBut rules before now rest status.Model = ⊥
+SaysBut rules before now rest _ = ⊥
 
 -- what the status of a call that reports a log says. Clean, Alarm and Overflow: the log was read to its end, and its report was written.
 -- ReadFault and Limit: a report of the lines that are whole in what was read was written. WriteFault and Memory: the beginning of
@@ -97,18 +95,12 @@ Says rules before now status.ReadFault = SaysBut rules before now [] status.Read
 Says rules before now status.Limit = SaysBut rules before now [] status.Limit
 Says rules before now status.WriteFault = ReportsSome rules before now × Rose before.out_faults now.out_faults
 Says rules before now status.Memory = ReportsSome rules before now
-Says rules before now status.Words = ⊥
-Says rules before now status.Model = ⊥
+Says rules before now _ = ⊥
 
 -- nothing was read or written
 pub record IsUntouched (before now : Streams) : Type 0 where
   pub log : Keeps before.log now.log
   pub out : Keeps before.out now.out
-
--- a line, or its first bytes where a write failed
-abbrev pub TellsLine : Option (List ℕ) → Option (List ℕ) → ℕ → ℕ → List ℕ → Type 0
-TellsLine old new faults_before faults_now line =
-    (n : ℕ) × Appends old new (take n line) × (n < length line → Rose faults_before faults_now)
 
 -- what a write of pending bytes says: they are written and gone, or the first of them are
 abbrev pub WriteSays : Option (List ℕ) → Option (List ℕ) → ℕ → ℕ → List ℕ → List ℕ → Result Unit SinkFault → Type 0

@@ -5,16 +5,17 @@ ghost use Rattle.log_specs.specs.Blocks.{Task};
 ghost use Rattle.log_specs.specs.LogReports.{rules_of};
 ghost use Rattle.log_reader.specs.Reading.{HoldsNoFeed};
 ghost use Rattle.log_session.specs.Progress.{Progress, IsTaskOf};
-ghost use Rattle.model_specs.specs.Automata.{HasOneOfEachName};
 ghost use Rattle.report_loop.specs.Outcome.{Streams, Says};
-ghost use Rattle.report_loop.specs.Tasks.{check_task};
+ghost use Rattle.report_loop.specs.Names.{AreNamedApart};
+ghost use Rattle.report_loop.specs.Tasks.{log_task};
 ghost use Rattle.report_loop.specs.Turns.{AddsBlock, is_line, IsReporting, TurnSays, FlushSays, LinesSay, GivesOne, status_for, status_at_end};
 
 use crate::status::Status;
 use crate::writing::{write_pending, write_rest, write_status};
 use lha_model::Automaton;
 use log_reader::{Line, LineReader, ReadFault};
-use log_session::CheckedLog;
+use log_session::JudgedLog;
+use log_specs::LogForm;
 use mon_io::{Sink, SinkFault, Source};
 use std::alloc::{AllocError, Global};
 use std::sync::Arc;
@@ -25,22 +26,22 @@ const LOG_LIMIT: u64 = 1 << 34;
 /// Adds the block of what the reader gave, and tells whether it was a line. After an error nothing has changed.
 fn add_block(
     alloc: Global,
-    checked: &mut CheckedLog,
+    judged: &mut JudgedLog<'_>,
     line: Line,
     pending: &mut Vec<u8>,
 ) -> Result<bool, AllocError>
     requires { HoldsNoFeed line }
-    ensures ok { OnOk result ((task : Task) → IsTaskOf task checked.old → AddsBlock task line checked.old checked.new pending.old.items pending.new.items) }
+    ensures ok { OnOk result ((task : Task) → IsTaskOf task judged.old → AddsBlock task line judged.old judged.new pending.old.items pending.new.items) }
     ensures more { IfOk result (λ more. more ≡ is_line line) }
     ensures err { OnErr result (pending.new.items ≡ pending.old.items) }
 {
     match line {
         Line::Text { number, bytes } => {
-            checked.add_line(alloc, number, &bytes, pending)?;
+            judged.add_line(alloc, number, &bytes, pending)?;
             Ok(true)
         }
         Line::Long { number } => {
-            checked.add_long(number, pending)?;
+            judged.add_long(number, pending)?;
             Ok(true)
         }
         Line::End => Ok(false),
@@ -48,12 +49,12 @@ fn add_block(
 }
 
 /// The status at the end of a log.
-fn status_of(checked: &CheckedLog) -> Status
-    ensures { result ≡ status_at_end checked.now.has_alarm checked.now.has_overflow }
+fn status_of(judged: &JudgedLog<'_>) -> Status
+    ensures { result ≡ status_at_end judged.now.has_alarm judged.now.has_overflow }
 {
-    if checked.has_alarm() {
+    if judged.has_alarm() {
         Status::Alarm
-    } else if checked.has_overflow() {
+    } else if judged.has_overflow() {
         Status::Overflow
     } else {
         Status::Clean
@@ -75,24 +76,24 @@ fn fault_status(fault: ReadFault) -> Status
 fn read_line<L: Source>(
     alloc: Global,
     reader: &mut LineReader,
-    checked: &mut CheckedLog,
+    judged: &mut JudgedLog<'_>,
     pending: &mut Vec<u8>,
     log: &mut L,
 ) -> Option<Status>
     ensures says { (task : Task) (before : Streams) (out : Option (List ℕ)) (writes : ℕ)
         → IsReporting task before (record { log = L.told log.old; log_faults = L.faults log.old; out = out; out_faults = writes })
-        reader.old checked.old pending.old.items
+        reader.old judged.old pending.old.items
         → TurnSays task before (record { log = L.told log.new; log_faults = L.faults log.new; out = out; out_faults = writes })
-        reader.new checked.new pending.new.items result }
+        reader.new judged.new pending.new.items result }
     ensures given { IfNone result (GivesOne reader.old reader.new) }
 {
     let line = match reader.next_line(alloc, log) {
         Ok(line) => line,
         Err(fault) => return Some(fault_status(fault)),
     };
-    match add_block(alloc, checked, line, pending) {
+    match add_block(alloc, judged, line, pending) {
         Ok(true) => None,
-        Ok(false) => Some(status_of(checked)),
+        Ok(false) => Some(status_of(judged)),
         Err(_) => Some(Status::Memory),
     }
 }
@@ -120,7 +121,7 @@ fn flush_before_read<O: Sink>(
 fn read_lines<L: Source, O: Sink>(
     alloc: Global,
     reader: &mut LineReader,
-    checked: &mut CheckedLog,
+    judged: &mut JudgedLog<'_>,
     pending: &mut Vec<u8>,
     log: &mut L,
     out: &mut O,
@@ -128,7 +129,7 @@ fn read_lines<L: Source, O: Sink>(
     ensures { (task : Task) (before : Streams)
         → IsReporting task before
         (record { log = L.told log.old; log_faults = L.faults log.old; out = O.taken out.old; out_faults = O.faults out.old })
-        reader.old checked.old pending.old.items
+        reader.old judged.old pending.old.items
         → LinesSay task before
         (record { log = L.told log.new; log_faults = L.faults log.new; out = O.taken out.new; out_faults = O.faults out.new })
         pending.new.items result }
@@ -137,40 +138,38 @@ fn read_lines<L: Source, O: Sink>(
         if let Err(fault) = flush_before_read(reader, pending, out) {
             return Err(fault);
         }
-        if let Some(status) = read_line(alloc, reader, checked, pending, log) {
+        if let Some(status) = read_line(alloc, reader, judged, pending, log) {
             return Ok(status);
         }
     }
 }
 
-/// Reports a log: reads its lines, judges them by the first of the automata with at most so many jumps in each gap, and writes the
-/// block of each, without the lines of runs. It returns whenever the source and the sink do.
+/// Reports a log of this form: reads its lines, judges them by the automata with at most so many jumps in each gap, and writes the
+/// block of each, without the lines of runs. The log of `check` is judged by the first automaton. It returns whenever the source and
+/// the sink do.
 ///
-/// The automata have distinct names, and each has distinct variables and locations, as those of a model's text.
+/// No two automata have one name, and no two variables of one automaton, as in a model's text.
 pub fn report_log<L: Source, O: Sink>(
     alloc: Global,
+    form: LogForm,
     models: &[Arc<Automaton>],
     jumps: u8,
     log: &mut L,
     out: &mut O,
 ) -> Status
-    requires some { 1 ≤ length models.now }
-    requires names { HasOneOfEachName (map (λ a. arc_value a) models.now) }
+    requires names { AreNamedApart (map (λ a. arc_value a) models.now) }
     requires jumps { jumps ≤ 6 }
-    ensures { Says (rules_of (check_task (map (λ a. arc_value a) models.now) jumps))
+    ensures { Says (rules_of (log_task form (map (λ a. arc_value a) models.now) jumps))
         (record { log = L.told log.old; log_faults = L.faults log.old; out = O.taken out.old; out_faults = O.faults out.old })
         (record { log = L.told log.new; log_faults = L.faults log.new; out = O.taken out.new; out_faults = O.faults out.new })
         result }
 {
-    let Ok(automaton) = Arc::try_clone(&models[0]) else {
-        return Status::Memory;
-    };
     let Ok(mut reader) = LineReader::new(alloc, LOG_LIMIT) else {
         return Status::Memory;
     };
-    let mut checked = CheckedLog::new(automaton, jumps);
+    let mut judged = JudgedLog::new(alloc, form, models, jumps);
     let mut pending = Vec::new(alloc);
-    match read_lines(alloc, &mut reader, &mut checked, &mut pending, log, out) {
+    match read_lines(alloc, &mut reader, &mut judged, &mut pending, log, out) {
         Ok(status) => write_rest(out, &mut pending, status),
         Err(fault) => write_status(fault),
     }

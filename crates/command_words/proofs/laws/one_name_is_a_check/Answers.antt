@@ -1,5 +1,5 @@
-use Rattle.command_words.proofs.LawLemmas.{one_name}
+use Rattle.command_words.proofs.LawLemmas.{one_check}
 use Rattle.command_words.proofs.laws.one_name_is_a_check.Goals as goal
 
 pub returns : goal.returns
-returns c = one_name
+returns c = one_check

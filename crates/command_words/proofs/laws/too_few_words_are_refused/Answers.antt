@@ -4,4 +4,4 @@ use Rattle.command_words.proofs.laws.too_few_words_are_refused.Goals as goal
 
 pub returns : goal.returns
 unfolding clap_on_literals
-returns c = (refl, refl)
+returns c = (refl, refl, refl)

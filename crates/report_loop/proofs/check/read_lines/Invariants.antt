@@ -8,10 +8,10 @@ abbrev pub invariant-lines : goal.invariant-lines
 invariant-lines g l = (task : Task) (before : Streams) →
     IsReporting task before
     (record { log = g.L.Source.told l.fn.log; log_faults = g.L.Source.faults l.fn.log; out = g.O.Sink.taken l.fn.out; out_faults = g.O.Sink.faults l.fn.out })
-    l.fn.reader l.fn.checked l.fn.pending.items →
+    l.fn.reader l.fn.judged l.fn.pending.items →
     IsReporting task before
     (record { log = g.L.Source.told l.log; log_faults = g.L.Source.faults l.log; out = g.O.Sink.taken l.out; out_faults = g.O.Sink.faults l.out })
-    l.reader l.checked l.pending.items
+    l.reader l.judged l.pending.items
 
 abbrev pub decreases-lines : goal.decreases-lines
 decreases-lines g l = l.reader.reading.most + 1 - l.reader.reading.given

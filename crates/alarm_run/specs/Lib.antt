@@ -1,0 +1,4 @@
+pub mod Befores
+pub mod Shapes
+pub mod Traces
+pub mod Paths

@@ -1,0 +1,35 @@
+//! What the blocks of lines speak of.
+
+ghost use Rattle.std.specs.Prelude.{◌≡◌, IfSome};
+ghost use Rattle.std.specs.Option.{option_map};
+ghost use Rattle.log_specs.specs.Blocks as blocks;
+ghost use Rattle.alarm_report.specs.ReportLines.{spoken_of};
+ghost use Rattle.log_session.specs.Progress as progress;
+
+use log_specs::LogForm;
+use run_specs::Verdict;
+
+/// Whether a reply is an alarm.
+pub(crate) fn is_alarm(verdict: Verdict) -> bool
+    ensures { result ≡ blocks.is_alarm verdict }
+{
+    matches!(verdict, Verdict::Alarm)
+}
+
+/// Whether a reply is an overflow.
+pub(crate) fn is_overflow(verdict: Verdict) -> bool
+    ensures { result ≡ progress.is_overflow verdict }
+{
+    matches!(verdict, Verdict::Overflow)
+}
+
+/// Who a reply speaks of: nobody in `check`, the session in `watch`.
+pub(crate) fn subject<'a>(form: LogForm, name: &'a [u8]) -> Option<&'a [u8]>
+    ensures told { spoken_of (option_map (λ n. n.now) result) ≡ blocks.subject form name.now }
+    ensures within { IfSome result (λ n. n.now ≡ name.now) }
+{
+    match form {
+        LogForm::Check => None,
+        LogForm::Watch => Some(name),
+    }
+}

@@ -1,0 +1,4 @@
+pub mod Tables
+pub mod Columns
+pub mod Refusals
+pub mod Parts

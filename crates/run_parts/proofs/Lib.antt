@@ -1,0 +1,12 @@
+pub mod Choices
+pub mod OpenParts
+pub mod PathNumbers
+pub mod PathGlue
+pub mod PathParts
+pub mod PathPicks
+pub mod GapParts
+pub mod RestParts
+pub mod RunParts
+pub mod LeastNumbers
+pub mod FirstGaps
+pub mod WideGaps

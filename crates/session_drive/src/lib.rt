@@ -1,0 +1,10 @@
+//! Drives the samples of a session: each begins, is given the entry that it wants, and is finished with a reply.
+//!
+//! How the entry is found is a matter of the driver. `Stepping` makes each by a step over the gap.
+#![tactic(auto)]
+
+mod driver;
+mod stepping;
+
+pub use driver::Drive;
+pub use stepping::Stepping;
