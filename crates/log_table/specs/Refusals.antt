@@ -8,21 +8,21 @@ use Rattle.log_specs.specs.LogSessions.{Judgement, refused}
 use Rattle.live_session.specs.declared.refusals.SampleRefusal.{SampleRefusal}
 use Rattle.live_session.specs.declared.refusals.SampleRefusal.TheVariants as sample
 use Rattle.log_table.specs.declared.not_taken.NotTaken.{NotTaken}
-use Rattle.log_table.specs.declared.not_taken.NotTaken.TheVariants as not
+use Rattle.log_table.specs.declared.not_taken.NotTaken.TheVariants as untaken
 
 -- the row is refused by this word, by what it does; or memory was wanted
 abbrev pub IsNotTaken : (Bool → Judgement) → NotTaken → Type 0
-IsNotTaken judged (not.Refused e) = (begun : Bool) → judged begun ≡ refused e
-IsNotTaken judged not.Memory = ⊤
+IsNotTaken judged (untaken.Refused e) = (begun : Bool) → judged begun ≡ refused e
+IsNotTaken judged untaken.Memory = ⊤
 
 -- ---- samples
 
 -- what refuses a sample, as what refuses a row
 abbrev pub refusal_of : SampleRefusal → NotTaken
-refusal_of sample.Cells = not.Refused why.Cells
-refusal_of sample.Time = not.Refused why.Time
-refusal_of sample.Limit = not.Refused why.Limit
-refusal_of sample.Memory = not.Memory
+refusal_of sample.Cells = untaken.Refused why.Cells
+refusal_of sample.Time = untaken.Refused why.Time
+refusal_of sample.Limit = untaken.Refused why.Limit
+refusal_of sample.Memory = untaken.Memory
 
 -- this is the first reason that holds, where no more samples are accepted or some are
 abbrev pub IsRefusedBy : Bool → MonitorSession → Sample → Refusal → Type 0
@@ -40,5 +40,5 @@ IsRefusedBy full s sample why.Column = ⊥
 
 -- the same; or memory was wanted
 abbrev pub IsSampleRefused : Bool → MonitorSession → Sample → NotTaken → Type 0
-IsSampleRefused full s sample (not.Refused e) = IsRefusedBy full s sample e
-IsSampleRefused full s sample not.Memory = ⊤
+IsSampleRefused full s sample (untaken.Refused e) = IsRefusedBy full s sample e
+IsSampleRefused full s sample untaken.Memory = ⊤
