@@ -1,4 +1,1 @@
-pub mod Befores
-pub mod Shapes
-pub mod Traces
-pub mod Paths
+pub mod Alarms

@@ -1,15 +1,7 @@
-//! The run that an alarm stands for: the numbers of a run backwards, from where it ends.
+//! The run that an alarm stands for: the first one of the session's log that visits an unsafe
+//! location.
 #![tactic(auto)]
 
-mod befores;
-mod commons;
-mod parts;
-mod paths;
-mod shapes;
-mod traces;
+mod walking;
 
-pub use befores::{jump_before, leg_before};
-pub use commons::over_all;
-pub use paths::trace;
-pub use shapes::gap_run_of;
-pub use traces::{Back, jump_back, leg_back};
+pub use walking::alarm_run;

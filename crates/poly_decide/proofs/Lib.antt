@@ -8,3 +8,4 @@ pub mod InclusionLemmas
 pub mod PruneLemmas
 pub mod DominationLemmas
 pub mod ThinningLemmas
+pub mod OutsideLemmas

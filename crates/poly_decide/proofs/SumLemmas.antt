@@ -15,7 +15,7 @@ use Rattle.poly_specs.specs.Systems.{IsLevel}
 use Rattle.poly_decide.proofs.EmptinessLemmas.{dot-zeros}
 use Rattle.poly_decide.specs.Caps.{HoldsAt}
 
-dot-opposite : (cs ns : List ℤ) → dot (map neg_ℤ cs) ns ≡ neg_ℤ (dot cs ns)
+pub dot-opposite : (cs ns : List ℤ) → dot (map neg_ℤ cs) ns ≡ neg_ℤ (dot cs ns)
 dot-opposite [] ns = refl
 dot-opposite (c ∷ cs) [] = refl
 dot-opposite (c ∷ cs) (n ∷ ns) = omega (arith, ints, neg_mul c n, dot-opposite cs ns)

@@ -1,3 +1,4 @@
 pub mod Caps
 pub mod Bounded
 pub mod Pruned
+pub mod Outside

@@ -5,13 +5,11 @@
 
 mod bounds;
 mod caps;
-mod constants;
 mod emptiness;
 mod entailment;
 mod inclusion;
 mod limits;
-mod multiples;
-mod plain;
+mod outside;
 mod pruning;
 mod sums;
 mod thinning;
@@ -22,6 +20,7 @@ pub use emptiness::is_empty;
 pub use entailment::entails;
 use frac128::Frac;
 pub use inclusion::includes;
+pub use point_hints::{Shown, show};
 pub use pruning::prune;
 pub use thinning::{thinned_left, thinned_levels};
 

@@ -8,8 +8,8 @@ ghost use Rattle.poly_decide.specs.Bounded.{IsBound};
 
 use crate::Bound;
 use crate::caps::least_cap;
-use crate::constants::{exceeds, some_never_holds};
 use lin_row::Row;
+use point_hints::{exceeds, some_never_holds};
 
 /// The bound, from what is left without any column and with the sum's column alone.
 pub fn bound_of(none: &[Row], first: &[Row]) -> Bound

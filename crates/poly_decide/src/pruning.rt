@@ -3,22 +3,20 @@
 ghost use Rattle.std.specs.Prelude.{◌≡◌, ◌↔◌, ◌+◌, ◌<◌, ◌≤◌, ◌++◌, ◌∷◌, [], List, Any, IsTrue, IfOk, OnOk, MatchBool, length, take, drop};
 ghost use Rattle.poly_specs.specs.Bounds.{Entails};
 ghost use Rattle.poly_specs.specs.Columns.{IsDominated};
-ghost use Rattle.poly_specs.specs.Lists.{IsAmong};
 ghost use Rattle.poly_specs.specs.Rows.{Row as RowValue, AllWide};
 ghost use Rattle.poly_decide.specs.Pruned.{IsPruned, IsThinned, AreUndominated, AreUndominatedFrom};
 
-use crate::multiples::implying_rows;
-use crate::plain::plain_entails;
-use fm_eliminate::{RowFault, System};
+use crate::outside::{add_copies, shown_outside};
+use fm_eliminate::System;
 use lin_row::Row;
+use point_hints::Shown;
 use std::alloc::{AllocError, Global};
 
 /// A system with the same points, of some of the rows in their order.
 ///
 /// No row that is left dominates another one: of equal rows one stays. A row is also dropped where
-/// a few others that are left are found to imply it. They are searched with floats, which nothing
-/// else depends on, and then it is decided exactly. Where they are not found, where deciding passes
-/// 128 bits, and in systems of 14 columns, a row that none dominates stays.
+/// it is quickly shown that others that are left imply it; where nothing is shown, a row that none
+/// dominates stays.
 pub fn prune(alloc: Global, s: &System) -> Result<System, AllocError>
     ensures pruned { IfOk result (λ t. IsPruned s.now t) }
     ensures undominated { IfOk result (λ t. AreUndominated t.rows) }
@@ -113,17 +111,8 @@ fn others_of(alloc: Global, rows: &[Row], place: usize) -> Result<Vec<Row>, Allo
     Ok(others)
 }
 
-fn add_copies(rows: &mut Vec<Row>, more: &[Row]) -> Result<(), AllocError>
-    ensures { OnOk result (rows.new.items ≡ rows.old.items ++ more.now) }
-{
-    for row in more {
-        rows.push(row.copy())?;
-    }
-    Ok(())
-}
-
-/// Whether one of the rows dominates the row, or a few of them are found to imply it.
-pub fn is_found_implied(
+/// Whether one of the rows dominates the row, or it is shown that it leaves out no point of the rows.
+fn is_found_implied(
     alloc: Global,
     width: usize,
     rows: &[Row],
@@ -136,65 +125,31 @@ pub fn is_found_implied(
     if is_dominated(row, rows) {
         return Ok(true);
     }
-    few_imply(alloc, width, rows, row)
+    let implied = is_shown_implied(alloc, width, rows, row)?;
+    Ok(implied)
 }
 
-fn is_dominated(row: &Row, others: &[Row]) -> bool
-    ensures { IsTrue result ↔ Any (λ other. IsDominated row.now other) others.now }
-{
-    others.iter().any(|other| Row::dominated(row, other))
-}
-
-/// Whether a few of the rows are found to imply the row.
-fn few_imply(alloc: Global, width: usize, rows: &[Row], row: &Row) -> Result<bool, AllocError>
+/// Whether it is shown that the row leaves out no point of the rows.
+fn is_shown_implied(
+    alloc: Global,
+    width: usize,
+    rows: &[Row],
+    row: &Row,
+) -> Result<bool, AllocError>
     requires wide { AllWide width rows.now }
     requires width { length row.now.coef ≡ width }
     ensures { IfOk result (λ b. IsTrue b → Entails width rows.now row.now) }
 {
-    if width > 13 {
-        return Ok(false);
+    match shown_outside(alloc, width, rows, row)? {
+        Shown::Empty => Ok(true),
+        Shown::Inhabited => Ok(false),
+        Shown::Nothing => Ok(false),
     }
-    let Some(places) = implying_rows(alloc, rows, row)? else {
-        return Ok(false);
-    };
-    let few = rows_at(alloc, rows, places.as_slice())?;
-    let answer = do_imply(alloc, width, few, row)?;
-    Ok(answer)
 }
 
-/// The rows at these places, where there are any.
-fn rows_at(alloc: Global, rows: &[Row], places: &[usize]) -> Result<Vec<Row>, AllocError>
-    ensures { IfOk result (λ v. IsAmong v.items rows.now) }
+/// Whether one of the others dominates the row.
+pub fn is_dominated(row: &Row, others: &[Row]) -> bool
+    ensures { IsTrue result ↔ Any (λ other. IsDominated row.now other) others.now }
 {
-    let mut some = Vec::new(alloc);
-    for place in places {
-        add_at(rows, *place, &mut some)?;
-    }
-    Ok(some)
-}
-
-fn add_at(rows: &[Row], place: usize, some: &mut Vec<Row>) -> Result<(), AllocError>
-    requires { IsAmong some.old.items rows.now }
-    ensures { OnOk result (IsAmong some.new.items rows.now) }
-{
-    if place >= rows.len() {
-        return Ok(());
-    }
-    some.push(rows[place].copy())?;
-    Ok(())
-}
-
-/// Whether the rows are shown to imply the row: not where deciding this passes 128 bits.
-fn do_imply(alloc: Global, width: usize, rows: Vec<Row>, row: &Row) -> Result<bool, AllocError>
-    requires wide { AllWide width rows.items }
-    requires width { length row.now.coef ≡ width }
-    requires few { width ≤ 13 }
-    ensures { IfOk result (λ b. IsTrue b → Entails width rows.items row.now) }
-{
-    let system = System::of_rows(width, rows);
-    match plain_entails(alloc, &system, row) {
-        Ok(answer) => Ok(answer),
-        Err(RowFault::Passes) => Ok(false),
-        Err(RowFault::Memory) => Err(AllocError),
-    }
+    others.iter().any(|other| Row::dominated(row, other))
 }

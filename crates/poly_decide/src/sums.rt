@@ -83,8 +83,9 @@ fn in_front(alloc: Global, first: i128, numbers: &[i128]) -> SmallVec<i128, 14>
     all
 }
 
-fn opposites(alloc: Global, numbers: &[i128]) -> SmallVec<i128, 14>
-    requires few { length numbers.now ≤ 13 }
+/// The numbers with the other sign.
+pub fn opposites(alloc: Global, numbers: &[i128]) -> SmallVec<i128, 14>
+    requires few { length numbers.now ≤ 14 }
     requires fit { All FitsBits numbers.now }
     ensures items { result.items ≡ map neg_ℤ numbers.now }
     ensures fit { All FitsBits result.items }
@@ -96,7 +97,8 @@ fn opposites(alloc: Global, numbers: &[i128]) -> SmallVec<i128, 14>
     negated
 }
 
-fn opposite_of(number: i128) -> i128
+/// The number with the other sign.
+pub fn opposite_of(number: i128) -> i128
     requires { FitsBits number }
     ensures value { result ≡ neg_ℤ number }
     ensures fits { FitsBits result }

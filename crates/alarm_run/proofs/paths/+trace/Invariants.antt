@@ -1,4 +1,0 @@
-use Rattle.alarm_run.proofs.paths.+trace.Given as goal
-
-abbrev pub decreases-trace : goal.decreases-trace
-decreases-trace l = l.left
