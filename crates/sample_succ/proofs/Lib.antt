@@ -15,3 +15,4 @@ pub mod GapStartLemmas
 pub mod ParentLemmas
 pub mod PartLemmas
 pub mod AnswerLemmas
+pub mod LastLegLemmas

@@ -3,3 +3,4 @@ pub mod Starts
 pub mod Covers
 pub mod Walks
 pub mod Parts
+pub mod LastLegs

@@ -9,6 +9,7 @@ ghost use Rattle.sample_succ.specs.Walks.{IsNode, IsAfter, IsJumped, AreFound, A
 
 use crate::covering::is_covered;
 use crate::finding::{Found, Node};
+use crate::last_leg::never_ends;
 use crate::stepping::{automaton_of, jump, leg, sample};
 use fm_eliminate::{RowFault, System};
 use gap_keys::Key;
@@ -206,6 +207,25 @@ fn count_of(key: &Key) -> u8
     automaton_of(key).trans().len() as u8
 }
 
+/// Walks the node's path, which may jump no more. Most such paths end nowhere, which is asked first.
+fn visit_last(alloc: Global, key: &Key, node: &Node, found: &mut Vec<Found>) -> Result<(), RowFault>
+    requires node { IsNode key.now node.now }
+    requires full { length node.now.path.items ≡ key.now.jumps }
+    requires wide { AreWide (width key.now.automaton) found.old.items }
+    requires found { AreFound key.now (items_of found.old.items) }
+    requires before { AllBefore (items_of found.old.items) node.now.parent node.now.path.items }
+    ensures ok { OnOk result (WalkedTo key.now node.now.parent node.now.path.items (length key.now.automaton.transitions) found.old.items found.new.items) }
+    ensures passes { result ≡ Err RowFault.Passes → KeyPasses key.now }
+{
+    // What a key keeps, as its reader says.
+    automaton_of(key);
+    if never_ends(alloc, key, node)? {
+        return Ok(());
+    }
+    visit(alloc, key, node, found)?;
+    Ok(())
+}
+
 /// Walks the node's path and then those that extend it by at most so many jumps, and adds what is
 /// found.
 pub fn walk(
@@ -223,14 +243,14 @@ pub fn walk(
     ensures ok { OnOk result (WalkedTo key.now node.now.parent node.now.path.items (length key.now.automaton.transitions) found.old.items found.new.items) }
     ensures passes { result ≡ Err RowFault.Passes → KeyPasses key.now }
 {
+    if left == 0 {
+        return visit_last(alloc, key, node, found);
+    }
     let visited = visit(alloc, key, node, found)?;
     let after = match visited {
         None => return Ok(()),
         Some(after) => after,
     };
-    if left == 0 {
-        return Ok(());
-    }
     for e in 0..count_of(key) {
         let next = jumped(alloc, key, node, &after, e)?;
         match next {

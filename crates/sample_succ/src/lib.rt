@@ -7,6 +7,7 @@ mod gap_parts;
 mod gap_starts;
 mod gap_step;
 mod gap_walk;
+mod last_leg;
 mod sample_rows;
 mod sampling;
 mod start;

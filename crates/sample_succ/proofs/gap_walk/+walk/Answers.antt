@@ -1,17 +1,8 @@
 use Rattle.std.proofs.Common.{◌+◌, arith, sym, subst}
-use Rattle.sample_succ.specs.Walks.{WalkedTo, IsVisited, IsJumped}
-use Rattle.sample_succ.proofs.WalkLemmas.{walked_all, walked_past, next_walked, next_before, next_left}
+use Rattle.sample_succ.specs.Walks.{WalkedTo, IsJumped}
+use Rattle.sample_succ.proofs.WalkLemmas.{walked_past, next_walked, next_before, next_left}
 use Rattle.sample_succ.proofs.gap_walk.+walk.Goals as goal
 use Rattle.sample_succ.proofs.gap_walk.+walk.Goals.{in-None-next, in-Some-next+in_ok-walk-in-Some-next}
-
-pub returns-then-left-eq0-clause-ok : goal.returns-then-left-eq0-clause-ok
-returns-then-left-eq0-clause-ok t c =
-    let key = c.args.key.now in
-    let n = c.args.node.now in
-    let visited = subst (IsVisited key n.parent n.path.items c.args.found.now.items c.visit.new.found.items) c.in-Some.is c.in_ok-visited.ensures.ok in
-    let left = c.requires.left in
-    let none = c.if-left-eq0.true in
-    walked_all key n.parent n.path.items c.args.found.now.items c.visit.new.found.items (omega (arith, left, none)) visited.0
 
 pub walk-requires : goal.walk-requires
 walk-requires t c =
