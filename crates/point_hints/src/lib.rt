@@ -4,7 +4,13 @@
 //! guesses is a hint alone: the answer is given after exact arithmetic has confirmed it.
 #![tactic(auto)]
 
+mod candidates;
+mod certificates;
 mod constants;
+mod dictionary;
+mod equations;
+mod floats;
+mod search;
 mod showing;
 
 pub use constants::{exceeds, some_never_holds};

@@ -4,7 +4,11 @@ ghost use Rattle.std.specs.Prelude.{IfOk};
 ghost use Rattle.point_hints.specs.Showing.{IsShown};
 
 use crate::Shown;
+use crate::candidates::point_at;
+use crate::certificates::{is_refuted, multipliers};
+use crate::search::{Corner, Found, search};
 use fm_eliminate::System;
+use lin_row::Point;
 use std::alloc::{AllocError, Global};
 
 /// Whether the system has a point, if a search with floats finds one, or multiples of its rows that
@@ -12,6 +16,46 @@ use std::alloc::{AllocError, Global};
 pub fn show(alloc: Global, system: &System) -> Result<Shown, AllocError>
     ensures { IfOk result (IsShown system.now) }
 {
-    system.copy(alloc)?;
-    Ok(Shown::Nothing)
+    match search(alloc, system)? {
+        Found::Corner(corner) => show_point(alloc, system, &corner),
+        Found::Conflict(chosen) => show_conflict(alloc, system, &chosen),
+        Found::Nothing => Ok(Shown::Nothing),
+    }
+}
+
+fn show_point(alloc: Global, system: &System, corner: &Corner) -> Result<Shown, AllocError>
+    ensures { IfOk result (IsShown system.now) }
+{
+    match point_at(alloc, system.width(), system.rows(), corner)? {
+        None => Ok(Shown::Nothing),
+        Some(point) => Ok(shown_by_point(system, &point)),
+    }
+}
+
+fn shown_by_point(system: &System, point: &Point) -> Shown
+    ensures { IsShown system.now result }
+{
+    if point.num().len() == system.width() && system.holds(point) == Some(true) {
+        return Shown::Inhabited;
+    }
+    Shown::Nothing
+}
+
+fn show_conflict(alloc: Global, system: &System, chosen: &[usize; 16]) -> Result<Shown, AllocError>
+    ensures { IfOk result (IsShown system.now) }
+{
+    match multipliers(alloc, system.width(), system.rows(), chosen)? {
+        None => Ok(Shown::Nothing),
+        Some(factors) => Ok(shown_by_factors(system, factors.as_slice())),
+    }
+}
+
+fn shown_by_factors(system: &System, factors: &[i128]) -> Shown
+    ensures { IsShown system.now result }
+{
+    let rows = system.rows();
+    if factors.len() == rows.len() && is_refuted(system.width(), rows, factors) {
+        return Shown::Empty;
+    }
+    Shown::Nothing
 }
