@@ -33,7 +33,7 @@ use Rattle.gap_runs.specs.Traces.{BackValue, after_of, IsBack, IsLegBack, IsJump
 divides_at : (P : Fraction → Type 0) (xs : List Fraction) (j : ℕ) → j < length xs → AllByRecursion P xs → P (get_or xs j zero_fraction)
 divides_at P xs j h all = All-from_recursion P xs all j zero_fraction h
 
-common_at : (xs : List Fraction) (j : ℕ) → j < length xs → AllByRecursion IsFraction xs → SameFraction (coordinate j (common_point xs)) (get_or xs j zero_fraction)
+pub common_at : (xs : List Fraction) (j : ℕ) → j < length xs → AllByRecursion IsFraction xs → SameFraction (coordinate j (common_point xs)) (get_or xs j zero_fraction)
 common_at xs j h all =
     let d : ℕ = common_den xs in
     let x : Fraction = get_or xs j zero_fraction in
@@ -41,7 +41,7 @@ common_at xs j h all =
     subst (λ z. SameFraction (record { num = z; den = pos d }) x) (sym at)
     (over_common x d (divides_at IsFraction xs j h all) (common_positive xs all) (divides_at (λ y. den_of y ∣ d) xs j h (each_divides xs)))
 
-same_common : (d : ℤ) (ns : List ℤ) (xs : List Fraction) → pos 0 <ℤ d → AllByRecursion IsFraction xs → length ns ≡ length xs →
+pub same_common : (d : ℤ) (ns : List ℤ) (xs : List Fraction) → pos 0 <ℤ d → AllByRecursion IsFraction xs → length ns ≡ length xs →
     ((j : ℕ) → j < length xs → SameFraction (coordinate j (over d ns)) (get_or xs j zero_fraction)) → SamePoint (over d ns) (common_point xs)
 same_common d ns xs hd all len f =
     let some = common_positive xs all in
@@ -50,7 +50,7 @@ same_common d ns xs hd all len f =
     (λ j h. let lt : j < length xs = omega (arith, h, len) in
     same-trans (coordinate j (over d ns)) (get_or xs j zero_fraction) (coordinate j (common_point xs)) hd (divides_at IsFraction xs j lt all) hc (f j lt) (sym (common_at xs j lt all)))
 
-inside_same : (rows : List Row) (d : ℤ) (ns : List ℤ) (xs : List Fraction) → pos 0 <ℤ d → AllByRecursion IsFraction xs → SamePoint (over d ns) (common_point xs) →
+pub inside_same : (rows : List Row) (d : ℤ) (ns : List ℤ) (xs : List Fraction) → pos 0 <ℤ d → AllByRecursion IsFraction xs → SamePoint (over d ns) (common_point xs) →
     AllHold rows (over d ns) → AllHold rows (common_point xs)
 inside_same rows d ns xs hd all same holds =
     let some = common_positive xs all in
@@ -88,7 +88,7 @@ last_of old xs n m l =
     let e : length (old ++ drop n xs) - m ≡ length old + 0 = omega (arith, length-append old (drop n xs), length-drop n xs, l) in
     ap (λ k. drop k (old ++ drop n xs)) e ∙ drop-append-add old (drop n xs) 0
 
-positive_drop : (n : ℕ) (xs : List Fraction) (v : Fraction) → AllByRecursion IsFraction xs → IsFraction v → AllByRecursion IsFraction (drop n xs ++ v ∷ [])
+pub positive_drop : (n : ℕ) (xs : List Fraction) (v : Fraction) → AllByRecursion IsFraction xs → IsFraction v → AllByRecursion IsFraction (drop n xs ++ v ∷ [])
 positive_drop n [] v all h = go n
   where
     go : (n : ℕ) → AllByRecursion IsFraction (drop n [] ++ v ∷ [])
@@ -98,13 +98,24 @@ positive_drop zero (x ∷ xs) v all h = (all.0, positive_drop zero xs v all.1 h)
 positive_drop (suc n) (x ∷ xs) v all h = positive_drop n xs v all.1 h
 
 -- the elapsed time that is given
-given_elapsed : (m : ℕ) (b : BackValue) (xs : List Fraction) → m ≤ length b.numbers → take (length (after_of m b)) xs ≡ after_of m b → get_or xs m zero_fraction ≡ b.elapsed
+pub given_elapsed : (m : ℕ) (b : BackValue) (xs : List Fraction) → m ≤ length b.numbers → take (length (after_of m b)) xs ≡ after_of m b → get_or xs m zero_fraction ≡ b.elapsed
 given_elapsed m b xs h begins =
     let values : List Fraction = drop (length b.numbers - m) b.numbers in
     let len : length values ≡ m = omega (arith, length-drop (length b.numbers - m) b.numbers, h) in
     let within : m < length (after_of m b) = omega (arith, length-append values (b.elapsed ∷ []), len) in
     sym (get_or-take (length (after_of m b)) xs m zero_fraction within) ∙ ap (λ ys. get_or ys m zero_fraction) begins
     ∙ ap (λ k. get_or (after_of m b) k zero_fraction) (sym len) ∙ get_or-append_seam values b.elapsed [] zero_fraction
+
+-- ---- the parts of the points of a jump and of a leg
+
+pub jump_numbers : (m : ℕ) (ns : List ℤ) → length ns ≡ (m + 1) + m → take m ns ++ number_at m ns ∷ drop (m + 1) ns ≡ ns
+jump_numbers m ns l = ap (λ z. take m ns ++ z) (sym (drop_more ns m (pos 0) (omega (arith, l)))) ∙ take-append-drop m ns
+
+pub leg_numbers : (m : ℕ) (ns : List ℤ) → length ns ≡ (m + 2) + m → take m ns ++ number_at m ns ∷ number_at (m + 1) ns ∷ drop (m + 2) ns ≡ ns
+leg_numbers m ns l =
+    let two : m + 1 + 1 ≡ m + 2 = omega arith in
+    let second : drop (m + 1) ns ≡ number_at (m + 1) ns ∷ drop (m + 2) ns = drop_more ns (m + 1) (pos 0) (omega (arith, l)) ∙ ap (λ n. number_at (m + 1) ns ∷ drop n ns) two in
+    ap (λ z. take m ns ++ z) (sym (drop_more ns m (pos 0) (omega (arith, l)) ∙ ap (λ z. number_at m ns ∷ z) second)) ∙ take-append-drop m ns
 
 -- ---- jumps
 
@@ -129,11 +140,11 @@ module _ (a : Automaton) (e : ℕ) (state : List Row) (old new : BackValue) (rel
   jump_sized : length p.num ≡ (m + 1) + m
   jump_sized = let s = back.picked.picked.point.sized in omega (arith, s)
 
-  jump_numbers_sized : length xs ≡ (m + 1) + m
+  pub jump_numbers_sized : length xs ≡ (m + 1) + m
   jump_numbers_sized = let s = back.picked.picked.sized in omega (arith, s)
 
   jump_parts : take m p.num ++ number_at m p.num ∷ drop (m + 1) p.num ≡ p.num
-  jump_parts = let s = jump_sized in ap (λ z. take m p.num ++ z) (sym (drop_more p.num m (pos 0) (omega (arith, s)))) ∙ take-append-drop m p.num
+  jump_parts = jump_numbers m p.num jump_sized
 
   jump_holds : AllHold state (over p.den (drop (m + 1) p.num ++ number_at m p.num ∷ []))
   jump_holds =
@@ -145,7 +156,7 @@ module _ (a : Automaton) (e : ℕ) (state : List Row) (old new : BackValue) (rel
   jump_elapsed : SameFraction (record { num = number_at m p.num; den = p.den }) old.elapsed
   jump_elapsed = subst (SameFraction (coordinate m p)) (given_elapsed m old xs long back.picked.picked.begins) (back.picked.picked.agrees m (omega arith))
 
-  jump_after : after_of m new ≡ drop (m + 1) xs ++ old.elapsed ∷ []
+  pub jump_after : after_of m new ≡ drop (m + 1) xs ++ old.elapsed ∷ []
   jump_after =
       ap (λ ys. drop (length ys - m) ys ++ new.elapsed ∷ []) back.more ∙ ap (λ v. drop (length (old.numbers ++ drop (m + 1) xs) - m) (old.numbers ++ drop (m + 1) xs) ++ v ∷ []) back.elapsed
       ∙ ap (λ ys. ys ++ old.elapsed ∷ []) (last_of old.numbers xs (m + 1) m jump_numbers_sized)
@@ -178,7 +189,7 @@ sub_times i j c =
     ap (λ z. z *ℤ c) u ∙ add_mul i (neg_ℤ j) c ∙ ap (λ z. i *ℤ c +ℤ z) (neg_mul j c) ∙ v
 
 -- e and t over d are these fractions: so e - t is their difference
-minus_same : (d e t : ℤ) (x y : Fraction) → SameFraction (record { num = e; den = d }) x → SameFraction (record { num = t; den = d }) y →
+pub minus_same : (d e t : ℤ) (x y : Fraction) → SameFraction (record { num = e; den = d }) x → SameFraction (record { num = t; den = d }) y →
     SameFraction (record { num = e -ℤ t; den = d }) (difference x y)
 minus_same d e t x y f g =
     let one : (e *ℤ x.den) *ℤ y.den ≡ (x.num *ℤ d) *ℤ y.den = ap (λ z. z *ℤ y.den) f in
@@ -227,15 +238,11 @@ module _ (a : Automaton) (l : ℕ) (state : List Row) (old new : BackValue) (loc
   leg_sized : length q.num ≡ (k + 2) + k
   leg_sized = let s = back.picked.picked.point.sized in omega (arith, s)
 
-  leg_numbers_sized : length ys ≡ (k + 2) + k
+  pub leg_numbers_sized : length ys ≡ (k + 2) + k
   leg_numbers_sized = let s = back.picked.picked.sized in omega (arith, s)
 
   leg_parts : take k q.num ++ number_at k q.num ∷ number_at (k + 1) q.num ∷ start ≡ q.num
-  leg_parts =
-      let s = leg_sized in
-      let two : k + 1 + 1 ≡ k + 2 = omega arith in
-      let second : drop (k + 1) q.num ≡ number_at (k + 1) q.num ∷ start = drop_more q.num (k + 1) (pos 0) (omega (arith, s)) ∙ ap (λ n. number_at (k + 1) q.num ∷ drop n q.num) two in
-      ap (λ z. take k q.num ++ z) (sym (drop_more q.num k (pos 0) (omega (arith, s)) ∙ ap (λ z. number_at k q.num ∷ z) second)) ∙ take-append-drop k q.num
+  leg_parts = leg_numbers k q.num leg_sized
 
   leg_holds : AllHold state (over q.den (start ++ left ∷ []))
   leg_holds =
@@ -247,7 +254,7 @@ module _ (a : Automaton) (l : ℕ) (state : List Row) (old new : BackValue) (loc
   stay_positive : IsFraction stay
   stay_positive = let t = leg_numbers_sized in back.picked.picked.fractions (k + 1) zero_fraction (omega (arith, t))
 
-  gone_positive : IsFraction (difference old.elapsed stay)
+  pub gone_positive : IsFraction (difference old.elapsed stay)
   gone_positive = product_positive old.elapsed.den stay.den given_positive stay_positive
 
   leg_elapsed : SameFraction (record { num = left; den = q.den }) (lowest (difference old.elapsed stay))
@@ -259,7 +266,7 @@ module _ (a : Automaton) (l : ℕ) (state : List Row) (old new : BackValue) (loc
       (lowest-IsFraction (difference old.elapsed stay) gone_positive) (minus_same q.den (number_at k q.num) (number_at (k + 1) q.num) old.elapsed stay first second)
       (sym (lowest-same (difference old.elapsed stay)))
 
-  leg_after : after_of k new ≡ drop (k + 2) ys ++ lowest (difference old.elapsed stay) ∷ []
+  pub leg_after : after_of k new ≡ drop (k + 2) ys ++ lowest (difference old.elapsed stay) ∷ []
   leg_after =
       let t = leg_numbers_sized in
       let t' : length (drop (k + 1) ys) ≡ 1 + k = omega (arith, length-drop (k + 1) ys, t) in

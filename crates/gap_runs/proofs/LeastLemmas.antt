@@ -20,7 +20,7 @@ use Rattle.poly_specs.specs.Fractions.{Fraction, IsFraction, SameFraction, fract
 
 -- ---- the least common multiple divides each common one
 
-lcm_least : (a b n : ℕ) → 0 < b → 0 < n → a ∣ n → b ∣ n → lcm a b ∣ n
+pub lcm_least : (a b n : ℕ) → 0 < b → 0 < n → a ∣ n → b ∣ n → lcm a b ∣ n
 lcm_least a b n hb hn da db =
     let g : ℕ = gcd a b in
     let some : 0 < g = gcd-positive a b hb in

@@ -5,3 +5,13 @@ pub mod ShapeLemmas
 pub mod TraceLemmas
 pub mod InsideLemmas
 pub mod PathLemmas
+pub mod AgreePicks
+pub mod GapShapes
+pub mod ArriveLemmas
+pub mod AgreeSteps
+pub mod AgreePath
+pub mod AgreeGap
+pub mod LicencePicks
+pub mod LicenceSums
+pub mod LicencePath
+pub mod LicenceGap

@@ -1,5 +1,6 @@
 -- The systems along a path.
 use Rattle.std.proofs.Common.{◌≡◌, inl, inr, ℕ, suc, ◌+◌, ◌-◌, ◌≤◌, List, [], ◌∷◌, length, length-append, drop, get_or, sym, ◌∙◌, ap, subst, arith, pos, ◌<ℤ◌}
+use Rattle.std.specs.List.{AllByRecursion}
 use Rattle.std.proofs.lemmas.Int.{ints}
 use Rattle.std.proofs.lemmas.List.{length-map, length-drop}
 use Rattle.std.proofs.lemmas.List.Elements.{recursion_from_All, All-drop, All-push}
@@ -23,11 +24,13 @@ after_sized m b is =
     length-map (after_of m b) (num_over (common_den (after_of m b)))
     ∙ omega (arith, length-append (drop (length b.numbers - m) b.numbers) (b.elapsed ∷ []), length-drop (length b.numbers - m) b.numbers, h)
 
-after_positive : (m : ℕ) (b : BackValue) → IsBack m b → pos 0 <ℤ pos (common_den (after_of m b))
-after_positive m b is =
+pub after_fractions : (m : ℕ) (b : BackValue) → IsBack m b → AllByRecursion IsFraction (after_of m b)
+after_fractions m b is =
     let values : List Fraction = drop (length b.numbers - m) b.numbers in
-    let h = common_positive (after_of m b) (recursion_from_All IsFraction (after_of m b) (All-push IsFraction values b.elapsed (All-drop IsFraction (length b.numbers - m) b.numbers is.fractions) is.elapsed)) in
-    omega (arith, ints, h)
+    recursion_from_All IsFraction (after_of m b) (All-push IsFraction values b.elapsed (All-drop IsFraction (length b.numbers - m) b.numbers is.fractions) is.elapsed)
+
+after_positive : (m : ℕ) (b : BackValue) → IsBack m b → pos 0 <ℤ pos (common_den (after_of m b))
+after_positive m b is = let h = common_positive (after_of m b) (after_fractions m b is) in omega (arith, ints, h)
 
 -- ---- the parts of a path with a transition
 
@@ -51,11 +54,11 @@ jump_reached : (a : Automaton) (e : ℕ) (before after : System) (plain : List R
 jump_reached a e before after plain b is h holds =
     (is.exact (pos (common_den (after_of (width a) b))) (common_nums (after_of (width a) b)) (after_positive (width a) b h) (after_sized (width a) b h)).0 holds
 
-some_part : (a : Automaton) (l : ℕ) (path : List ℕ) (before : System) (plain : List Row) (systems : List System) → AreParts a l path before plain systems → 1 ≤ length systems
+pub some_part : (a : Automaton) (l : ℕ) (path : List ℕ) (before : System) (plain : List Row) (systems : List System) → AreParts a l path before plain systems → 1 ≤ length systems
 some_part a l [] before plain systems (s, after, is) = let h = ap length is in omega (arith, h)
 some_part a l (e ∷ path) before plain systems (s, t, rest, leg, jump, parts, is) = let h = ap length is in omega (arith, h)
 
-last_after : (s t : System) (rest : List System) → 1 ≤ length rest → last_system rest ≡ last_system (s ∷ t ∷ rest)
+pub last_after : (s t : System) (rest : List System) → 1 ≤ length rest → last_system rest ≡ last_system (s ∷ t ∷ rest)
 last_after s t [] h = absurd (omega (arith, h))
 last_after s t (r ∷ rest) h =
     let one : length (r ∷ rest) - 1 ≡ length rest = omega arith in

@@ -7,6 +7,7 @@ use Rattle.poly_specs.specs.Fractions.{Fraction, SameFraction, fractions}
 use Rattle.poly_specs.specs.Lists.{In}
 use Rattle.poly_specs.specs.Pickings.{Picking, ArePicked, PickPasses}
 use Rattle.poly_specs.specs.Rows.{Row, AllHold, AllWide}
+use Rattle.poly_specs.specs.Systems.{System}
 use Rattle.run_parts.specs.Widths.{IsWide}
 use Rattle.run_specs.specs.Automaton.{width}
 use Rattle.run_specs.specs.FirstRun.{backwards}
@@ -14,17 +15,30 @@ use Rattle.run_specs.specs.Keys.{Key, parent_at}
 use Rattle.run_specs.specs.RunPasses.{path_pickings, gap_numbers}
 use Rattle.run_specs.specs.Runs.{GapRun, IsGapRun, path_of, start_point}
 use Rattle.run_specs.specs.Stages.{gap_start, gap_stages, SomeReachedPasses}
+use Rattle.sample_succ.specs.Parts.{AreParts, start_of}
 use Rattle.sample_succ.specs.Plain.{IsPlain}
+use Rattle.gap_runs.specs.Traces.{BackValue}
+use Rattle.gap_runs.specs.Paths.{AreTraced}
 
 -- a gap run, and the values at its start
 pub record GapValue : Type 0 where
   pub gap : GapRun
   pub start : List Fraction
 
+-- where a gap of this key ends: the last values, at which its whole length has elapsed
+abbrev pub end_of_gap : Key → List Fraction → BackValue
+end_of_gap key last = record { numbers = last; elapsed = key.gap }
+
+-- all numbers of the gap along this path, traced back from these last values through some systems of its stages
+pub record IsTracedGap (key : Key) (i : ℕ) (path : List ℕ) (last : List Fraction) (b : BackValue) : Type 0 where
+  pub systems : List System
+  pub parts : AreParts key.automaton (parent_at key i).loc path (start_of key i) (start_of key i).rows systems
+  pub traced : AreTraced key.automaton (parent_at key i).loc path (start_of key i) systems (end_of_gap key last) b
+
 -- over n columns: rows that hold where the given ones do, and have these among them
-pub record ArePlain (n : ℕ) (rows plain : List Row) : Type 0 where
-  pub plain : IsPlain n rows plain
-  pub wide : AllWide n plain
+pub record ArePlain (n : ℕ) (rows more : List Row) : Type 0 where
+  pub plain : IsPlain n rows more
+  pub wide : AllWide n more
 
 -- the pickings of a gap run that starts in these rows
 abbrev pub pickings_of : Key → List Row → GapRun → List Picking

@@ -36,7 +36,7 @@ fn target_of(a: &Automaton, trans: u8) -> u8
 }
 
 /// The system of this number.
-fn system(systems: &[System], i: usize) -> &System
+pub fn system(systems: &[System], i: usize) -> &System
     requires { i < length systems.now }
     ensures { result.now ≡ system_at systems.now i }
 {

@@ -1,65 +1,81 @@
-//! The point where rows seem to meet, exactly.
+//! A point near where one seems to be, with exact numbers.
 
-use crate::dictionary::NO_ROW;
-use crate::equations::{Equation, NONE_SAID, Unknowns, solution};
-use crate::search::Corner;
-use checked_integers::{kept_product, kept_sum};
+use crate::dictionary::Numbers;
+use crate::equations::{Equation, NONE_SAID, Unknowns, say_unknowns, solve};
+use crate::search::Spot;
 use lin_row::{Point, Row};
 use std::alloc::{AllocError, Global};
+use std::num::saturating_f64_to_i64;
 
 /// The unknown that stands for the denominator.
 const DENOMINATOR: usize = 14;
 
-/// The point where the sums of these rows are 0, those of strict ones a little below 0, and the
-/// columns that no row has taken are 0.
-pub fn point_at(
+/// The point: some columns are rounded to so many bits more than it takes, and the others are what
+/// the equations say.
+pub fn point_near(
     alloc: Global,
     width: usize,
     rows: &[Row],
-    corner: &Corner,
+    spot: &Spot,
+    more: u32,
 ) -> Result<Option<Point>, AllocError> {
     let mut equations = Vec::with_capacity(alloc, 16)?;
-    let mut open = [false; 16];
-    open[DENOMINATOR] = true;
-    for column in 0..14 {
-        open[column] = corner.rows[column + 1] != NO_ROW;
-    }
-    for at in corner.rows {
+    for at in spot.equal {
         if let Some(row) = rows.get(at) {
-            let Some(numbers) = shifted(row, &open, corner.parts) else {
-                return Ok(None);
-            };
-            equations.push(Equation {
-                numbers,
-                said: NONE_SAID,
-            })?;
+            equations.push(equation_of(row))?;
         }
     }
-    let Some(numbers) = solution(&mut equations, &open) else {
+    let mut left = [false; 16];
+    for column in 0..14 {
+        left[column] = column < width;
+    }
+    let Some(count) = say_unknowns(&mut equations, &mut left) else {
         return Ok(None);
     };
-    point_of(alloc, width, &numbers)
+    let mut numbers = rounded(&spot.values, &left, spot.bits.wrapping_add(more));
+    match solve(equations.as_slice(), count, &mut numbers) {
+        None => Ok(None),
+        Some(()) => point_of(alloc, width, &numbers),
+    }
 }
 
-/// The numbers of a row in open columns. Of a strict row so many parts, and its constant is one
-/// part of its largest coefficient above that.
-fn shifted(row: &Row, open: &[bool; 16], parts: i128) -> Option<Unknowns> {
+/// That the sum of a row is 0.
+fn equation_of(row: &Row) -> Equation {
     let mut numbers = [0; 16];
-    let mut most = 0;
-    let times = if row.strict() { parts } else { 1 };
     let coef = row.coef();
     for column in 0..coef.len().min(14) {
-        most = coef[column].saturating_abs().max(most);
-        if open[column] {
-            numbers[column] = kept_product(times, coef[column])?;
-        }
+        numbers[column] = coef[column];
     }
-    let more = if row.strict() { most } else { 0 };
-    numbers[DENOMINATOR] = kept_sum(kept_product(times, row.cst())?, more)?;
-    Some(numbers)
+    numbers[DENOMINATOR] = row.cst();
+    Equation {
+        numbers,
+        said: NONE_SAID,
+    }
 }
 
-/// The point of these numbers, if there is a denominator.
+/// The values of these columns, rounded to so many bits behind the point.
+fn rounded(values: &Numbers, left: &[bool; 16], bits: u32) -> Unknowns {
+    let mut numbers = [0; 16];
+    let mut scale = 1.0;
+    let mut denominator = 1i128;
+    for bit in 0..100 {
+        if bit < bits {
+            scale *= 2.0;
+            denominator = denominator.wrapping_mul(2);
+        }
+    }
+    for column in 0..14 {
+        if left[column] {
+            numbers[column] = i128::from(saturating_f64_to_i64(
+                (values[column + 1] * scale).round(),
+            ));
+        }
+    }
+    numbers[DENOMINATOR] = denominator;
+    numbers
+}
+
+/// The point of these numbers.
 fn point_of(alloc: Global, width: usize, numbers: &Unknowns) -> Result<Option<Point>, AllocError> {
     let den = numbers[DENOMINATOR];
     let mut num = Vec::with_capacity(alloc, width)?;

@@ -5,7 +5,7 @@ ghost use Rattle.poly_specs.specs.Rows.{coef_at, Allows};
 ghost use Rattle.point_hints.specs.Summing.{column_sum, constant_sum, is_strict_part, some_strict, IsRefuted};
 
 use crate::constants::exceeds;
-use crate::equations::{Equation, NONE_SAID, Unknowns, solution};
+use crate::equations::{Equation, NONE_SAID, Unknowns, say_unknowns, solve};
 use checked_integers::{kept_product, kept_sum};
 use lin_row::Row;
 use std::alloc::{AllocError, Global};
@@ -21,14 +21,33 @@ pub fn multipliers(
     for column in 0..width {
         equations.push(column_of(rows, chosen, column))?;
     }
-    let mut open = [false; 16];
+    let mut left = [false; 16];
     for place in 0..16 {
-        open[place] = chosen[place] < rows.len();
+        left[place] = chosen[place] < rows.len();
     }
-    let Some(numbers) = solution(&mut equations, &open) else {
+    let Some(count) = say_unknowns(&mut equations, &mut left) else {
         return Ok(None);
     };
-    Ok(Some(spread(alloc, rows.len(), chosen, &numbers)?))
+    let Some(mut numbers) = one_left(&left) else {
+        return Ok(None);
+    };
+    match solve(equations.as_slice(), count, &mut numbers) {
+        None => Ok(None),
+        Some(()) => Ok(Some(spread(alloc, rows.len(), chosen, &numbers)?)),
+    }
+}
+
+/// 1 for the one unknown that is left, or nothing where it is not one.
+fn one_left(left: &[bool; 16]) -> Option<Unknowns> {
+    let mut numbers = [0; 16];
+    let mut count = 0usize;
+    for place in 0..16 {
+        if left[place] {
+            numbers[place] = 1;
+            count = count.wrapping_add(1);
+        }
+    }
+    if count == 1 { Some(numbers) } else { None }
 }
 
 /// That the coefficients in a column cancel.

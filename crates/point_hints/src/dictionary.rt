@@ -1,19 +1,22 @@
 //! The rows of a system as equations between floats.
 //!
 //! Each row has a slack, which is what its sum lacks to 0: the row holds where its slack is at
-//! least 0. Some slacks are said by the others: each line of the dictionary says one. Where those
-//! others are 0, the slack of each line is the line's constant.
+//! least 0. Some slacks have taken the places of columns, and each line says what another slack is,
+//! by them. Where they are 0, the slack of a line is the line's constant.
+//!
+//! A point inside is wanted, where rounding does no harm: each slack is to be above 0 by a little.
+//! Slacks that are 0 at each point are let be 0.
 
 use crate::floats::{largest, near};
 use lin_row::Row;
 use std::alloc::{AllocError, Global};
 
-/// The numbers of a line: its constant, a number for each column, and in the last place what the
-/// constant changes where the slacks of strict rows are to be above 0 by a little.
+/// A constant, a number for each place from 1 on, and in the last place what the constant changes
+/// where the slacks are to be above 0 by a little.
 pub type Numbers = [f64; 16];
 
-/// The place of what strict rows change.
-const LITTLE: usize = 15;
+/// The place of what a little changes.
+pub const LITTLE: usize = 15;
 
 /// What counts as 0 among the numbers of lines.
 pub const ALMOST_ZERO: f64 = 1e-9;
@@ -21,7 +24,7 @@ pub const ALMOST_ZERO: f64 = 1e-9;
 /// What counts as 0 among their constants.
 pub const ALMOST_MET: f64 = 1e-8;
 
-/// Stands for the row of a column that no slack has taken.
+/// Stands for the row of a place that no slack has taken.
 pub const NO_ROW: usize = usize::MAX;
 
 /// What the slack of a row is.
@@ -31,12 +34,15 @@ pub struct Line {
     pub row: usize,
 }
 
-/// The lines, and in each place from 1 on the row whose slack has taken the place of a column.
+/// The lines; for each column whose place a slack has taken what it is; in each place the row
+/// of its slack; and for each row whether its slack is to be above 0 by a little.
 #[derive(Drop)]
 pub struct Dictionary {
     pub lines: Vec<Line>,
-    pub costs: Numbers,
+    pub columns: Vec<Numbers>,
     pub tight: [usize; 16],
+    costs: Numbers,
+    apart: Vec<bool>,
 }
 
 impl Dictionary {
@@ -48,14 +54,16 @@ impl Dictionary {
         }
         let mut dictionary = Dictionary {
             lines,
-            costs: [0.0; 16],
+            columns: vec![in alloc; [0.0; 16]; 16]?,
             tight: [NO_ROW; 16],
+            costs: [0.0; 16],
+            apart: vec![in alloc; true; rows.len()]?,
         };
-        dictionary.take_columns();
+        dictionary.take_places();
         Ok(dictionary)
     }
 
-    fn take_columns(&mut self) {
+    fn take_places(&mut self) {
         for column in 1..LITTLE {
             if let Some(at) = self.largest_in(column) {
                 self.pivot(at, column);
@@ -68,12 +76,12 @@ impl Dictionary {
         }
     }
 
-    /// The line with the largest number in the column.
-    fn largest_in(&self, column: usize) -> Option<usize> {
+    /// The line with the largest number in the place.
+    fn largest_in(&self, place: usize) -> Option<usize> {
         let mut found = None;
         let mut most = 1e-7;
         for (at, line) in self.lines.iter().enumerate() {
-            let number = line.numbers[column % 16].abs();
+            let number = line.numbers[place % 16].abs();
             if number > most {
                 found = Some(at);
                 most = number * 1.0001;
@@ -82,28 +90,38 @@ impl Dictionary {
         found
     }
 
-    /// Lets the slack of a line take this place, and the slack that had it, if any, have a line.
-    pub fn pivot(&mut self, at: usize, column: usize) {
+    /// Lets the slack of a line take this place, and what had it be said.
+    pub fn pivot(&mut self, at: usize, place: usize) {
         let Some(line) = self.lines.get(at) else {
             return;
         };
         let row = line.row;
-        let solved = solved(&line.numbers, column);
-        for other in self.lines.as_mut_slice() {
-            put(&mut other.numbers, column, &solved);
+        let solved = solved(&line.numbers, place);
+        for line in self.lines.as_mut_slice() {
+            put(&mut line.numbers, place, &solved);
         }
-        put(&mut self.costs, column, &solved);
-        let out = self.tight[column % 16];
-        self.tight[column % 16] = row;
+        for numbers in self.columns.as_mut_slice() {
+            put(numbers, place, &solved);
+        }
+        put(&mut self.costs, place, &solved);
+        let out = self.tight[place % 16];
+        self.tight[place % 16] = row;
         if out == NO_ROW {
-            if at < self.lines.len() {
-                self.lines.swap_remove(at);
-            }
+            self.say_column(at, place, solved);
         } else if let Some(line) = self.lines.get_mut(at) {
             *line = Line {
                 numbers: solved,
                 row: out,
             };
+        }
+    }
+
+    fn say_column(&mut self, at: usize, column: usize, solved: Numbers) {
+        if let Some(numbers) = self.columns.get_mut(column) {
+            *numbers = solved;
+        }
+        if at < self.lines.len() {
+            self.lines.swap_remove(at);
         }
     }
 
@@ -127,19 +145,83 @@ impl Dictionary {
         let mut found = None;
         let mut least = f64::INFINITY;
         let mut most = 0.0;
-        for column in 1..LITTLE {
-            let number = line.numbers[column];
-            if self.tight[column] == NO_ROW || number <= ALMOST_ZERO {
+        for place in 1..LITTLE {
+            let number = line.numbers[place];
+            if self.tight[place] == NO_ROW || number <= ALMOST_ZERO {
                 continue;
             }
-            let price = self.costs[column] / number;
+            let price = self.costs[place] / number;
             if price < least - 1e-12 || (price < least + 1e-12 && number > most) {
-                found = Some(column);
+                found = Some(place);
                 least = price;
                 most = number;
             }
         }
         found
+    }
+
+    /// Lets the slacks of a line be 0 that has no number above 0, and the constant 0. Whether some
+    /// were not before; not where a strict row is among them.
+    pub fn let_be_zero(&mut self, at: usize, rows: &[Row]) -> bool {
+        let Some(line) = self.lines.get_mut(at) else {
+            return false;
+        };
+        if line.numbers[0] < -ALMOST_MET || is_strict(rows, line.row) {
+            return false;
+        }
+        let numbers = line.numbers;
+        let mut some = false;
+        if close(self.apart.as_mut_slice(), line.row) {
+            line.numbers[LITTLE] += 1.0;
+            some = true;
+        }
+        for place in 1..LITTLE {
+            if numbers[place] < -ALMOST_ZERO {
+                let row = self.tight[place];
+                if is_strict(rows, row) {
+                    return false;
+                }
+                if close(self.apart.as_mut_slice(), row) {
+                    self.come_near(place);
+                    some = true;
+                }
+            }
+        }
+        some
+    }
+
+    /// Lets the slack of a place be 0.
+    fn come_near(&mut self, place: usize) {
+        for line in self.lines.as_mut_slice() {
+            line.numbers[LITTLE] -= line.numbers[place % 16];
+        }
+        for numbers in self.columns.as_mut_slice() {
+            numbers[LITTLE] -= numbers[place % 16];
+        }
+    }
+
+    /// Whether the slack of a row is to be above 0.
+    pub fn is_apart(&self, row: usize) -> bool {
+        *self.apart.get(row).unwrap_or(&true)
+    }
+}
+
+fn is_strict(rows: &[Row], at: usize) -> bool {
+    match rows.get(at) {
+        None => false,
+        Some(row) => row.strict(),
+    }
+}
+
+/// Lets the slack of a row be 0. Whether it was to be above 0.
+fn close(apart: &mut [bool], row: usize) -> bool {
+    match apart.get_mut(row) {
+        None => false,
+        Some(apart) => {
+            let was = *apart;
+            *apart = false;
+            was
+        }
     }
 }
 
@@ -152,9 +234,7 @@ fn line_of(row: &Row, place: usize) -> Line {
     for column in 0..coef.len().min(14) {
         numbers[column + 1] = near(coef[column]) * scale;
     }
-    if row.strict() {
-        numbers[LITTLE] = -1.0;
-    }
+    numbers[LITTLE] = -1.0;
     Line {
         numbers,
         row: place,
@@ -162,25 +242,25 @@ fn line_of(row: &Row, place: usize) -> Line {
 }
 
 /// The line, solved for what has this place.
-fn solved(numbers: &Numbers, column: usize) -> Numbers {
-    let by = 1.0 / numbers[column % 16];
+fn solved(numbers: &Numbers, place: usize) -> Numbers {
+    let by = 1.0 / numbers[place % 16];
     let mut solved = [0.0; 16];
-    for place in 0..16 {
-        solved[place] = -numbers[place] * by;
+    for other in 0..16 {
+        solved[other] = -numbers[other] * by;
     }
-    solved[column % 16] = by;
+    solved[place % 16] = by;
     solved
 }
 
 /// Puts what the place is into a line.
-fn put(numbers: &mut Numbers, column: usize, solved: &Numbers) {
-    let times = numbers[column % 16];
+fn put(numbers: &mut Numbers, place: usize, solved: &Numbers) {
+    let times = numbers[place % 16];
     if times == 0.0 {
         return;
     }
-    numbers[column % 16] = 0.0;
-    for place in 0..16 {
-        numbers[place] += times * solved[place];
+    numbers[place % 16] = 0.0;
+    for other in 0..16 {
+        numbers[other] += times * solved[other];
     }
 }
 
@@ -193,14 +273,4 @@ fn missed(numbers: &Numbers) -> f64 {
         return numbers[LITTLE] * ALMOST_ZERO;
     }
     0.0
-}
-
-/// Into how many parts a coefficient is to be divided, so that a line is still met where the strict
-/// rows hold by one part.
-pub fn parts_for(numbers: &Numbers) -> f64 {
-    if numbers[0] > ALMOST_MET && numbers[LITTLE] < -ALMOST_ZERO {
-        -numbers[LITTLE] / numbers[0]
-    } else {
-        0.0
-    }
 }

@@ -17,51 +17,42 @@ pub struct Equation {
 /// Stands for the unknown of an equation that says none.
 pub const NONE_SAID: usize = 16;
 
-/// Numbers that meet the equations, not all of them 0, where they are determined but for a common
-/// factor. The unknowns that are not open are 0.
-pub fn solution(equations: &mut Vec<Equation>, open: &[bool; 16]) -> Option<Unknowns> {
-    let mut left = *open;
-    let mut first = 0;
+/// Lets equations say one unknown each, of those that are left, as many as can. An equation that
+/// says one stands before those that have it too. How many say one; the unknowns that none says are
+/// left.
+pub fn say_unknowns(equations: &mut Vec<Equation>, left: &mut [bool; 16]) -> Option<usize> {
+    let mut first = 0usize;
     for _ in 0..16 {
-        let Some(at) = shortest(equations.as_slice(), first) else {
-            break;
+        let Some(at) = shortest(equations.as_slice(), first, left) else {
+            return Some(first);
         };
         if first < equations.len() && at < equations.len() {
             equations.swap(first, at);
         }
-        let unknown = pick(equations.as_slice(), first);
+        let unknown = pick(equations.as_slice(), first, left);
         left[unknown % 16] = false;
         cancel_below(equations.as_mut_slice(), first, unknown)?;
         first = first.wrapping_add(1);
     }
-    let mut solution = ones(&left)?;
-    for at in (0..first).rev() {
+    Some(first)
+}
+
+/// Gives the unknowns that the first equations say their values, where all others have theirs.
+pub fn solve(equations: &[Equation], count: usize, values: &mut Unknowns) -> Option<()> {
+    for at in (0..count).rev() {
         if let Some(equation) = equations.get(at) {
-            equation.solve(&mut solution)?;
+            equation.solve(values)?;
         }
     }
-    Some(solution)
+    Some(())
 }
 
-/// 1 for the one unknown that is left, or nothing where it is not one.
-fn ones(left: &[bool; 16]) -> Option<Unknowns> {
-    let mut numbers = [0; 16];
-    let mut count = 0usize;
-    for place in 0..16 {
-        if left[place] {
-            numbers[place] = 1;
-            count = count.wrapping_add(1);
-        }
-    }
-    if count == 1 { Some(numbers) } else { None }
-}
-
-/// The equation from this one on with the fewest numbers, but with some.
-fn shortest(equations: &[Equation], first: usize) -> Option<usize> {
+/// The equation from this one on with the fewest numbers, but with one of an unknown that is left.
+fn shortest(equations: &[Equation], first: usize, left: &[bool; 16]) -> Option<usize> {
     let mut found = None;
     let mut fewest = usize::MAX;
     for (at, equation) in equations.iter().enumerate().skip(first) {
-        let length = equation.length();
+        let length = equation.length(left);
         if length > 0 && length < fewest {
             found = Some(at);
             fewest = length;
@@ -70,15 +61,15 @@ fn shortest(equations: &[Equation], first: usize) -> Option<usize> {
     found
 }
 
-/// The unknown of this equation that stands in the fewest equations behind it.
-fn pick(equations: &[Equation], at: usize) -> usize {
+/// The unknown of this equation, of those that are left, that stands in the fewest equations behind it.
+fn pick(equations: &[Equation], at: usize, left: &[bool; 16]) -> usize {
     let Some(equation) = equations.get(at) else {
         return NONE_SAID;
     };
     let mut found = NONE_SAID;
     let mut fewest = usize::MAX;
     for place in 0..16 {
-        if equation.numbers[place] != 0 {
+        if left[place] && equation.numbers[place] != 0 {
             let mut count = 0usize;
             for other in equations.iter().skip(at) {
                 if other.numbers[place] != 0 {
@@ -108,11 +99,11 @@ fn cancel_below(equations: &mut [Equation], at: usize, unknown: usize) -> Option
 }
 
 impl Equation {
-    /// How many numbers are not 0.
-    fn length(&self) -> usize {
+    /// How many numbers of unknowns that are left are not 0.
+    fn length(&self, left: &[bool; 16]) -> usize {
         let mut length = 0usize;
         for place in 0..16 {
-            if self.numbers[place] != 0 {
+            if left[place] && self.numbers[place] != 0 {
                 length = length.wrapping_add(1);
             }
         }
@@ -137,11 +128,11 @@ impl Equation {
     }
 
     /// Gives the unknown that the equation says its value, where all others in it have theirs.
-    fn solve(&self, solution: &mut Unknowns) -> Option<()> {
+    fn solve(&self, values: &mut Unknowns) -> Option<()> {
         let mut sum = 0;
         for place in 0..16 {
             if place != self.said {
-                sum = with_product(sum, self.numbers[place], solution[place])?;
+                sum = with_product(sum, self.numbers[place], values[place])?;
             }
         }
         if sum == 0 {
@@ -153,10 +144,10 @@ impl Equation {
         let times = quotient(number, shared);
         if times != 1 {
             for place in 0..16 {
-                solution[place] = with_product(0, times, solution[place])?;
+                values[place] = with_product(0, times, values[place])?;
             }
         }
-        solution[self.said % 16] = value.wrapping_neg();
+        values[self.said % 16] = value.wrapping_neg();
         Some(())
     }
 }

@@ -2,26 +2,27 @@
 //!
 //! What it finds is a hint alone.
 
-use crate::dictionary::{ALMOST_ZERO, Dictionary, NO_ROW, parts_for};
+use crate::dictionary::{ALMOST_MET, ALMOST_ZERO, Dictionary, LITTLE, NO_ROW, Numbers};
 use fm_eliminate::System;
 use std::alloc::{AllocError, Global};
 
 /// The most turns of the search.
 const TURNS: usize = 300;
 
-/// Rows whose sums seem to be 0 at a point of the system, each in the place of a column, counted
-/// from 1. A strict row's sum is below 0 by one part of its largest coefficient.
+/// A point: for each column, counted from 1, a number that may be rounded to so many bits behind the
+/// point, but for the equations that these rows are: their sums are 0 at each point.
 #[derive(Clone, Copy, Debug)]
-pub struct Corner {
-    pub rows: [usize; 16],
-    pub parts: i128,
+pub struct Spot {
+    pub values: Numbers,
+    pub bits: u32,
+    pub equal: [usize; 16],
 }
 
 /// What the search finds.
 #[derive(Clone, Copy, Debug)]
 pub enum Found {
     /// A point seems to be here.
-    Corner(Corner),
+    Inside(Spot),
     /// Multiples of these rows seem to add up to a row that cannot hold.
     Conflict([usize; 16]),
     /// Neither.
@@ -33,46 +34,105 @@ pub fn search(alloc: Global, system: &System) -> Result<Found, AllocError> {
     let mut dictionary = Dictionary::of_rows(alloc, system.rows())?;
     for _ in 0..TURNS {
         let Some(line) = dictionary.worst() else {
-            return Ok(Found::Corner(corner_of(&dictionary)));
+            return Ok(Found::Inside(spot_of(&dictionary)));
         };
-        let Some(column) = dictionary.cheapest(line) else {
-            return Ok(Found::Conflict(conflict_of(&dictionary, line)));
-        };
-        dictionary.pivot(line, column);
+        if let Some(place) = dictionary.cheapest(line) {
+            dictionary.pivot(line, place);
+        } else {
+            let chosen = conflict_of(&dictionary, line);
+            if !dictionary.let_be_zero(line, system.rows()) {
+                return Ok(Found::Conflict(chosen));
+            }
+        }
     }
     Ok(Found::Nothing)
 }
 
-fn corner_of(dictionary: &Dictionary) -> Corner {
-    let mut needed = 2.0;
-    for line in dictionary.lines.as_slice() {
-        needed = f64::max(needed, parts_for(&line.numbers));
-    }
-    let mut parts = 1i128;
-    let mut reached = 0.5;
-    for _ in 0..48 {
-        if reached < needed {
-            parts = parts.wrapping_mul(2);
-            reached *= 2.0;
-        }
-    }
-    Corner {
-        rows: dictionary.tight,
-        parts,
-    }
-}
-
-/// The rows of a line all whose numbers have one sign.
+/// The rows of a line without a number above 0.
 fn conflict_of(dictionary: &Dictionary, at: usize) -> [usize; 16] {
     let mut rows = [NO_ROW; 16];
     let Some(line) = dictionary.lines.get(at) else {
         return rows;
     };
     rows[0] = line.row;
-    for column in 1..15 {
-        if line.numbers[column] < -ALMOST_ZERO {
-            rows[column] = dictionary.tight[column];
+    for place in 1..LITTLE {
+        if line.numbers[place] < -ALMOST_ZERO {
+            rows[place] = dictionary.tight[place];
         }
     }
     rows
+}
+
+fn spot_of(dictionary: &Dictionary) -> Spot {
+    let little = little_of(dictionary);
+    let mut values = [0.0; 16];
+    for column in 1..LITTLE {
+        if let Some(numbers) = dictionary.columns.get(column) {
+            values[column] = numbers[0] + numbers[LITTLE] * little;
+        }
+    }
+    Spot {
+        values,
+        bits: bits_below(little),
+        equal: equal_rows(dictionary),
+    }
+}
+
+/// By how much the slacks may be above 0, half of what is the most, if that is no more than this.
+fn little_of(dictionary: &Dictionary) -> f64 {
+    let mut little = 64.0f64;
+    for line in dictionary.lines.as_slice() {
+        if line.numbers[0] > ALMOST_MET && line.numbers[LITTLE] < -ALMOST_ZERO {
+            little = little.min(line.numbers[0] / line.numbers[LITTLE] * -0.5);
+        }
+    }
+    little
+}
+
+/// To how many bits behind the point 14 columns may be rounded, if their slacks are to change by no
+/// more than this.
+fn bits_below(little: f64) -> u32 {
+    let mut bits = 0u32;
+    let mut error = 14.0;
+    for _ in 0..40 {
+        if error > little {
+            error *= 0.5;
+            bits = bits.wrapping_add(1);
+        }
+    }
+    bits
+}
+
+/// Rows whose slacks are 0 at each point, as many as it takes to say all of them.
+fn equal_rows(dictionary: &Dictionary) -> [usize; 16] {
+    let mut rows = dictionary.tight;
+    for place in 0..16 {
+        if dictionary.is_apart(rows[place]) {
+            rows[place] = NO_ROW;
+        }
+    }
+    let mut next = 0usize;
+    for line in dictionary.lines.as_slice() {
+        if !dictionary.is_apart(line.row) && !is_said(&line.numbers, &rows) {
+            for _ in 0..16 {
+                if next < 16 && rows[next] != NO_ROW {
+                    next = next.wrapping_add(1);
+                }
+            }
+            if next < 16 {
+                rows[next] = line.row;
+            }
+        }
+    }
+    rows
+}
+
+/// Whether a line has numbers in the places of these rows alone.
+fn is_said(numbers: &Numbers, rows: &[usize; 16]) -> bool {
+    for place in 1..LITTLE {
+        if numbers[place].abs() > ALMOST_ZERO && rows[place] == NO_ROW {
+            return false;
+        }
+    }
+    true
 }

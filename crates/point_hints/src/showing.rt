@@ -4,9 +4,9 @@ ghost use Rattle.std.specs.Prelude.{IfOk};
 ghost use Rattle.point_hints.specs.Showing.{IsShown};
 
 use crate::Shown;
-use crate::candidates::point_at;
+use crate::candidates::point_near;
 use crate::certificates::{is_refuted, multipliers};
-use crate::search::{Corner, Found, search};
+use crate::search::{Found, Spot, search};
 use fm_eliminate::System;
 use lin_row::Point;
 use std::alloc::{AllocError, Global};
@@ -17,16 +17,29 @@ pub fn show(alloc: Global, system: &System) -> Result<Shown, AllocError>
     ensures { IfOk result (IsShown system.now) }
 {
     match search(alloc, system)? {
-        Found::Corner(corner) => show_point(alloc, system, &corner),
+        Found::Inside(spot) => show_point(alloc, system, &spot),
         Found::Conflict(chosen) => show_conflict(alloc, system, &chosen),
         Found::Nothing => Ok(Shown::Nothing),
     }
 }
 
-fn show_point(alloc: Global, system: &System, corner: &Corner) -> Result<Shown, AllocError>
+/// Rounds to few bits at first, then to more.
+fn show_point(alloc: Global, system: &System, spot: &Spot) -> Result<Shown, AllocError>
     ensures { IfOk result (IsShown system.now) }
 {
-    match point_at(alloc, system.width(), system.rows(), corner)? {
+    for more in [1, 12, 30] {
+        let shown = show_near(alloc, system, spot, more)?;
+        if shown != Shown::Nothing {
+            return Ok(shown);
+        }
+    }
+    Ok(Shown::Nothing)
+}
+
+fn show_near(alloc: Global, system: &System, spot: &Spot, more: u32) -> Result<Shown, AllocError>
+    ensures { IfOk result (IsShown system.now) }
+{
+    match point_near(alloc, system.width(), system.rows(), spot, more)? {
         None => Ok(Shown::Nothing),
         Some(point) => Ok(shown_by_point(system, &point)),
     }
