@@ -6,9 +6,16 @@ ghost use Rattle.point_hints.specs.Summing.{column_sum, constant_sum, is_strict_
 
 use crate::constants::exceeds;
 use crate::equations::{Equation, NONE_SAID, Unknowns, say_unknowns, solve};
+use crate::ratios::in_ratio;
+use crate::search::Clash;
 use checked_integers::{kept_product, kept_sum};
 use lin_row::Row;
 use std::alloc::{AllocError, Global};
+
+/// What each row may have to be multiplied by, rounded.
+pub fn guessed(alloc: Global, count: usize, clash: &Clash) -> Result<Vec<i128>, AllocError> {
+    spread(alloc, count, &clash.rows, &in_ratio(&clash.shares))
+}
 
 /// What each row is to be multiplied by, so that the coefficients of these rows cancel.
 pub fn multipliers(

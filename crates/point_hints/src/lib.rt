@@ -10,6 +10,7 @@ mod constants;
 mod dictionary;
 mod equations;
 mod floats;
+mod ratios;
 mod search;
 mod showing;
 

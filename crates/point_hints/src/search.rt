@@ -3,7 +3,9 @@
 //! What it finds is a hint alone.
 
 use crate::dictionary::{ALMOST_MET, ALMOST_ZERO, Dictionary, LITTLE, NO_ROW, Numbers};
+use crate::floats::largest;
 use fm_eliminate::System;
+use lin_row::Row;
 use std::alloc::{AllocError, Global};
 
 /// The most turns of the search.
@@ -18,13 +20,20 @@ pub struct Spot {
     pub equal: [usize; 16],
 }
 
+/// Rows, and multiples of them, as floats, that seem to add up to a row that cannot hold.
+#[derive(Clone, Copy, Debug)]
+pub struct Clash {
+    pub rows: [usize; 16],
+    pub shares: Numbers,
+}
+
 /// What the search finds.
 #[derive(Clone, Copy, Debug)]
 pub enum Found {
     /// A point seems to be here.
     Inside(Spot),
-    /// Multiples of these rows seem to add up to a row that cannot hold.
-    Conflict([usize; 16]),
+    /// Multiples of rows seem to add up to a row that cannot hold.
+    Conflict(Clash),
     /// Neither.
     Nothing,
 }
@@ -39,9 +48,9 @@ pub fn search(alloc: Global, system: &System) -> Result<Found, AllocError> {
         if let Some(place) = dictionary.cheapest(line) {
             dictionary.pivot(line, place);
         } else {
-            let chosen = conflict_of(&dictionary, line);
+            let found = clash_of(&dictionary, line, system.rows());
             if !dictionary.let_be_zero(line, system.rows()) {
-                return Ok(Found::Conflict(chosen));
+                return Ok(Found::Conflict(found));
             }
         }
     }
@@ -49,18 +58,33 @@ pub fn search(alloc: Global, system: &System) -> Result<Found, AllocError> {
 }
 
 /// The rows of a line without a number above 0.
-fn conflict_of(dictionary: &Dictionary, at: usize) -> [usize; 16] {
-    let mut rows = [NO_ROW; 16];
-    let Some(line) = dictionary.lines.get(at) else {
-        return rows;
+fn clash_of(dictionary: &Dictionary, at: usize, rows: &[Row]) -> Clash {
+    let mut clash = Clash {
+        rows: [NO_ROW; 16],
+        shares: [0.0; 16],
     };
-    rows[0] = line.row;
+    let Some(line) = dictionary.lines.get(at) else {
+        return clash;
+    };
+    clash.rows[0] = line.row;
+    clash.shares[0] = share(rows, line.row, 1.0);
     for place in 1..LITTLE {
         if line.numbers[place] < -ALMOST_ZERO {
-            rows[place] = dictionary.tight[place];
+            let row = dictionary.tight[place];
+            clash.rows[place] = row;
+            clash.shares[place] = share(rows, row, -line.numbers[place]);
         }
     }
-    rows
+    clash
+}
+
+/// How many times a row is taken where its line, the largest of its coefficients 1, is taken so
+/// many times.
+fn share(rows: &[Row], at: usize, times: f64) -> f64 {
+    match rows.get(at) {
+        None => 0.0,
+        Some(row) => times / largest(row),
+    }
 }
 
 fn spot_of(dictionary: &Dictionary) -> Spot {

@@ -5,8 +5,8 @@ ghost use Rattle.point_hints.specs.Showing.{IsShown};
 
 use crate::Shown;
 use crate::candidates::point_near;
-use crate::certificates::{is_refuted, multipliers};
-use crate::search::{Found, Spot, search};
+use crate::certificates::{guessed, is_refuted, multipliers};
+use crate::search::{Clash, Found, Spot, search};
 use fm_eliminate::System;
 use lin_row::Point;
 use std::alloc::{AllocError, Global};
@@ -18,7 +18,7 @@ pub fn show(alloc: Global, system: &System) -> Result<Shown, AllocError>
 {
     match search(alloc, system)? {
         Found::Inside(spot) => show_point(alloc, system, &spot),
-        Found::Conflict(chosen) => show_conflict(alloc, system, &chosen),
+        Found::Conflict(clash) => show_conflict(alloc, system, &clash),
         Found::Nothing => Ok(Shown::Nothing),
     }
 }
@@ -54,10 +54,21 @@ fn shown_by_point(system: &System, point: &Point) -> Shown
     Shown::Nothing
 }
 
-fn show_conflict(alloc: Global, system: &System, chosen: &[usize; 16]) -> Result<Shown, AllocError>
+/// Rounds the multiples at first, and then solves for them.
+fn show_conflict(alloc: Global, system: &System, clash: &Clash) -> Result<Shown, AllocError>
     ensures { IfOk result (IsShown system.now) }
 {
-    match multipliers(alloc, system.width(), system.rows(), chosen)? {
+    let factors = guessed(alloc, system.rows().len(), clash)?;
+    match shown_by_factors(system, factors.as_slice()) {
+        Shown::Nothing => show_solved(alloc, system, clash),
+        shown => Ok(shown),
+    }
+}
+
+fn show_solved(alloc: Global, system: &System, clash: &Clash) -> Result<Shown, AllocError>
+    ensures { IfOk result (IsShown system.now) }
+{
+    match multipliers(alloc, system.width(), system.rows(), &clash.rows)? {
         None => Ok(Shown::Nothing),
         Some(factors) => Ok(shown_by_factors(system, factors.as_slice())),
     }
