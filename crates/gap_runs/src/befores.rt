@@ -23,7 +23,7 @@ use time_succ::leg_system;
 
 /// The point of the system that begins with these numbers, and each further number of which is
 /// picked.
-fn picked_after(alloc: Global, system: &System, first: &Point) -> Result<Point, RowFault>
+pub fn picked_after(alloc: Global, system: &System, first: &Point) -> Result<Point, RowFault>
     requires begins { (q : PointValue) × HasFirst system.now (numbers_of first.now) q }
     requires fits { length first.now.num ≤ system.now.width }
     ensures ok { IfOk result (λ p. IsPickedPoint system.now (numbers_of first.now) p) }
