@@ -1,5 +1,5 @@
 -- The lines of a report, and the room that they take.
-use Rattle.std.specs.Prelude.{ℕ, ◌+◌, ◌≤◌, List, [], ◌++◌, Option, Some, None, codes, decimal}
+use Rattle.std.specs.Prelude.{ℕ, List, [], ◌++◌, Option, Some, None, codes, decimal}
 use Rattle.run_specs.specs.declared.Verdict.{Verdict}
 use Rattle.log_specs.specs.declared.LogForm.TheVariants.{Check, Watch}
 use Rattle.log_specs.specs.declared.Refusal.{Refusal}

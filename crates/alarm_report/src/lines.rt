@@ -53,7 +53,9 @@ pub fn reserve_line(blocks: &mut Vec<u8>) -> Result<(), AllocError>
 pub fn put_line(blocks: &mut Vec<u8>, line: u64, session: Option<&[u8]>, verdict: Verdict)
     requires room { vec_len blocks.old + most_bytes ≤ vec_capacity blocks.old }
     requires short { IfSome session (λ name. length name.now ≤ 32) }
-    ensures { blocks.new.items ≡ blocks.old.items ++ verdict_line line (option_map (λ name. name.now) session.entry) verdict }
+    ensures items { blocks.new.items ≡ blocks.old.items ++ verdict_line line (option_map (λ name. name.now) session.entry) verdict }
+    ensures room { vec_capacity blocks.new ≡ vec_capacity blocks.old }
+    ensures few { vec_len blocks.new ≤ vec_len blocks.old + most_bytes }
 {
     put_number(blocks, line);
     put(blocks, b",");
@@ -63,6 +65,28 @@ pub fn put_line(blocks: &mut Vec<u8>, line: u64, session: Option<&[u8]>, verdict
     }
     put(blocks, verdict_text(verdict));
     put(blocks, b"\n");
+}
+
+/// Adds the line of an accepted sample, as above, and the lines of a run behind it.
+///
+/// # Errors
+///
+/// Want of memory. The bytes are then as before.
+pub fn put_answer(
+    blocks: &mut Vec<u8>,
+    line: u64,
+    session: Option<&[u8]>,
+    verdict: Verdict,
+    run: &[u8],
+) -> Result<(), AllocError>
+    requires { IfSome session (λ name. length name.now ≤ 32) }
+    ensures ok { OnOk result (blocks.new.items ≡ blocks.old.items ++ verdict_line line (option_map (λ name. name.now) session.entry) verdict ++ run.now) }
+    ensures err { OnErr result (blocks.new.items ≡ blocks.old.items) }
+{
+    blocks.reserve(MOST_BYTES + run.len())?;
+    put_line(blocks, line, session, verdict);
+    put(blocks, run);
+    Ok(())
 }
 
 /// Adds the line of a refused row, for which there is room. Takes no memory.

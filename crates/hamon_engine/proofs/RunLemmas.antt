@@ -90,18 +90,18 @@ says_cause_alone rules before now status.SavedText says = says
 says_cause_alone rules before now _ says = tt
 
 says_text : (s n : Streams) (t u : List ℕ → Option (List ℕ)) (f h : ℕ) (x : Status) (q : Request) (automata : List Automaton) (told : Option (List ℕ)) →
-    IfSome told (λ text. AreModelsOf text automata) → Says (rules_of (log_task (form_of q.command) automata q.options.jumps)) s n x → IfSome told (RunsText (outside s t f) (outside n u h) x q)
+    IfSome told (λ text. AreModelsOf text automata) → Says (rules_of (log_task (form_of q.command) automata q.options.jumps q.options.runs)) s n x → IfSome told (RunsText (outside s t f) (outside n u h) x q)
 says_text s n t u f h x q automata None is says = tt
 says_text s n t u f h x q automata (Some text) is says = record {
-  reports = λ others of. inl (subst (λ z. Says (rules_of (log_task (form_of q.command) z q.options.jumps)) s n x) (sym (is.only others of)) says);
+  reports = λ others of. inl (subst (λ z. Says (rules_of (log_task (form_of q.command) z q.options.jumps q.options.runs)) s n x) (sym (is.only others of)) says);
   refuses = λ none. absurd (none automata is.says);
 }
 
 pub says_runs : (s n : Streams) (t u : List ℕ → Option (List ℕ)) (f h : ℕ) (x : Status) (automata : List Automaton) (r : Request) →
-    IfSome (t (model_of r.command)) (λ text. AreModelsOf text automata) → Says (rules_of (log_task (form_of r.command) automata r.options.jumps)) s n x →
+    IfSome (t (model_of r.command)) (λ text. AreModelsOf text automata) → Says (rules_of (log_task (form_of r.command) automata r.options.jumps r.options.runs)) s n x →
     RunsWords (outside s t f) (outside n u h) x (Some r)
 says_runs s n t u f h x automata r is says =
-    (says_no_words (rules_of (log_task (form_of r.command) automata r.options.jumps)) s n x says, says_text s n t u f h x r automata (t (model_of r.command)) is says)
+    (says_no_words (rules_of (log_task (form_of r.command) automata r.options.jumps r.options.runs)) s n x says, says_text s n t u f h x r automata (t (model_of r.command)) is says)
 
 pub says_cause : {K : Type 0} (rules : Rules K) (s n : Streams) (t u : List ℕ → Option (List ℕ)) (f h : ℕ) (x : Status) → Says rules s n x → HasCause (outside s t f) (outside n u h) x
 says_cause rules s n t u f h status.Clean says = says.covers.ended
@@ -132,7 +132,7 @@ memory_reports rules before now x (inr none) = inr (record { untouched = none.un
 
 memory_text : (before now : Outside) (x : Status) (q : Request) (text : List ℕ) → RunsText before now x q text → RunsText before now status.Memory q text
 memory_text before now x q text r = record {
-  reports = λ automata is. memory_reports (rules_of (log_task (form_of q.command) automata q.options.jumps)) before now x (r.reports automata is);
+  reports = λ automata is. memory_reports (rules_of (log_task (form_of q.command) automata q.options.jumps q.options.runs)) before now x (r.reports automata is);
   refuses = λ none.
       let u = (r.refuses none).untouched in
       record { untouched = u; why = inr (record { untouched = u; why = inr refl }) };
@@ -182,7 +182,7 @@ complete_by rules before now x u (inr none) = complete_none none.why
 complete_told : (before now : Outside) (x : Status) (q : Request) (o : Option (List ℕ)) → IfSome o (RunsText before now x q) →
     IfSome o (λ text. (automata : List Automaton) → SaysAutomata text automata → IsUndisturbed before now → IsComplete x)
 complete_told before now x q None r = tt
-complete_told before now x q (Some text) r = λ automata is u. complete_by (rules_of (log_task (form_of q.command) automata q.options.jumps)) before now x u (r.reports automata is)
+complete_told before now x q (Some text) r = λ automata is u. complete_by (rules_of (log_task (form_of q.command) automata q.options.jumps q.options.runs)) before now x u (r.reports automata is)
 
 pub completes : (s n : Streams) (t u : List ℕ → Option (List ℕ)) (f h : ℕ) (x : Status) (o : Option Request) → RunsWords (outside s t f) (outside n u h) x o →
     Completes (outside s t f) (outside n u h) x o

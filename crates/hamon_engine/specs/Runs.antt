@@ -48,7 +48,7 @@ pub record RefusesText (before now : Outside) (s : Status) : Type 0 where
 -- what a run does with a model's text: the report of the command's log for its automata, or a refusal
 pub record RunsText (before now : Outside) (s : Status) (r : Request) (text : List ℕ) : Type 0 where
   pub reports : (automata : List Automaton) → SaysAutomata text automata →
-      Says (rules_of (log_task (form_of r.command) automata r.options.jumps)) before.streams now.streams s ⊎ HasNoModel before now s
+      Says (rules_of (log_task (form_of r.command) automata r.options.jumps r.options.runs)) before.streams now.streams s ⊎ HasNoModel before now s
   pub refuses : ((automata : List Automaton) → SaysAutomata text automata → ⊥) → RefusesText before now s
 
 -- what a run does with what its words ask for; None: they are refused

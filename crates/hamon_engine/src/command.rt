@@ -21,7 +21,7 @@ use report_loop::{Status, report_log};
 use std::alloc::Global;
 use std::sync::Arc;
 
-/// Checks a log of one session against the first of some automata, and writes its report, without the lines of runs.
+/// Checks a log of one session against the first of some automata, and writes its report, with the runs that the options ask for.
 ///
 /// No two of them have one name, nor two variables of one of them, as in a model's text. It returns whenever the source and the sink
 /// do.
@@ -34,15 +34,15 @@ pub fn check_log<L: Source, O: Sink>(
 ) -> Status
     requires names { AreNamedApart (map (λ a. arc_value a) models.now) }
     requires jumps { options.now.jumps ≤ 6 }
-    ensures { Says (rules_of (log_task LogForm.Check (map (λ a. arc_value a) models.now) options.now.jumps))
+    ensures { Says (rules_of (log_task LogForm.Check (map (λ a. arc_value a) models.now) options.now.jumps options.now.runs))
         (record { log = L.told log.old; log_faults = L.faults log.old; out = O.taken out.old; out_faults = O.faults out.old })
         (record { log = L.told log.new; log_faults = L.faults log.new; out = O.taken out.new; out_faults = O.faults out.new })
         result }
 {
-    report_log(alloc, LogForm::Check, models, options.jumps, log, out)
+    report_log(alloc, LogForm::Check, models, options.jumps, options.runs, log, out)
 }
 
-/// Watches a log of many sessions, each of one of some automata, and writes its report, without the lines of runs.
+/// Watches a log of many sessions, each of one of some automata, and writes its report, with the runs that the options ask for.
 ///
 /// No two of them have one name, nor two variables of one of them, as in a model's text. It returns whenever the source and the sink
 /// do.
@@ -55,12 +55,12 @@ pub fn watch_logs<L: Source, O: Sink>(
 ) -> Status
     requires names { AreNamedApart (map (λ a. arc_value a) models.now) }
     requires jumps { options.now.jumps ≤ 6 }
-    ensures { Says (rules_of (log_task LogForm.Watch (map (λ a. arc_value a) models.now) options.now.jumps))
+    ensures { Says (rules_of (log_task LogForm.Watch (map (λ a. arc_value a) models.now) options.now.jumps options.now.runs))
         (record { log = L.told log.old; log_faults = L.faults log.old; out = O.taken out.old; out_faults = O.faults out.old })
         (record { log = L.told log.new; log_faults = L.faults log.new; out = O.taken out.new; out_faults = O.faults out.new })
         result }
 {
-    report_log(alloc, LogForm::Watch, models, options.jumps, log, out)
+    report_log(alloc, LogForm::Watch, models, options.jumps, options.runs, log, out)
 }
 
 /// Reports the log of a command for some automata.
@@ -73,7 +73,7 @@ fn report<L: Source, O: Sink>(
 ) -> Status
     requires names { AreNamedApart (map (λ a. arc_value a) models.now) }
     requires jumps { request.now.options.jumps ≤ 6 }
-    ensures { Says (rules_of (log_task (form_of (said_command request.now.command)) (map (λ a. arc_value a) models.now) request.now.options.jumps))
+    ensures { Says (rules_of (log_task (form_of (said_command request.now.command)) (map (λ a. arc_value a) models.now) request.now.options.jumps request.now.options.runs))
         (record { log = L.told log.old; log_faults = L.faults log.old; out = O.taken out.old; out_faults = O.faults out.old })
         (record { log = L.told log.new; log_faults = L.faults log.new; out = O.taken out.new; out_faults = O.faults out.new })
         result }

@@ -26,15 +26,15 @@ struct Given<'a> {
 /// What came of it: the status, what was written and what was told.
 type Wanted<'a> = (Status, &'a str, &'a str);
 
-const CHECK: &[&str] = &["check", "M"];
+const CHECK: &[&str] = &["check", "M", "--runs", "none"];
 
 const TWO_JUMPS: &[&str] = CHECK;
 
-const ONE_JUMP: &[&str] = &["--jumps", "1", "check", "M"];
+const ONE_JUMP: &[&str] = &["--jumps", "1", "--runs", "none", "check", "M"];
 
-const THREE_JUMPS: &[&str] = &["check", "--jumps=3", "M"];
+const THREE_JUMPS: &[&str] = &["check", "--jumps=3", "--runs=none", "M"];
 
-const SIX_JUMPS: &[&str] = &["check", "M", "--jumps", "6"];
+const SIX_JUMPS: &[&str] = &["check", "M", "--jumps", "6", "--runs", "none"];
 
 fn words_of(alloc: Global, words: &[&str]) -> Result<Vec<String>, AllocError> {
     let mut all = Vec::new(alloc);
@@ -402,7 +402,7 @@ fn many_sessions_are_watched(rt: HostRuntime) -> Result<(), Fail> {
     expect_report(
         &rt,
         rt.alloc(),
-        &["watch", "M"],
+        &["watch", "M", "--runs", "none"],
         LEVEL,
         WATCHED.as_bytes(),
         wanted,

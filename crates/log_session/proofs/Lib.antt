@@ -1,3 +1,4 @@
+pub mod BehindLemmas
 pub mod ToldLemmas
 pub mod ReadLemmas
 pub mod LineLemmas

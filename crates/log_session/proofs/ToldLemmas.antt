@@ -1,13 +1,12 @@
 -- What a line does is told by a block that it may have.
 use Rattle.std.proofs.Common.{◌≡◌, ℕ, List, [], ◌∷◌, ◌++◌, Bool, true, false, ◌||◌, Option, refl, sym, ap, ◌∙◌, subst}
 use Rattle.std.specs.Prelude.{codes, decimal}
-use Rattle.std.proofs.lemmas.List.{append-nil}
+use Rattle.std.proofs.lemmas.List.{append-nil, append_assoc}
 use Rattle.run_specs.specs.Automaton.{Automaton}
 use Rattle.run_specs.specs.declared.Verdict.{Verdict}
 use Rattle.run_specs.specs.Verdicts.{IsLawful}
 use Rattle.log_specs.specs.declared.LogForm.{LogForm}
 use Rattle.log_specs.specs.declared.RunsMode.{RunsMode}
-use Rattle.log_specs.specs.declared.RunsMode.TheVariants as mode
 use Rattle.log_specs.specs.LogRows.{Cells}
 use Rattle.log_specs.specs.LogSessions.{LogState, Judgement, passed_over, opened, closed, flushed, accepted, judge_opening, judge_closing, judge_sample, session_of}
 use Rattle.log_specs.specs.Blocks.{Task, last_of, wants_run, IsRunPart, IsAnswered, subject, verdict_word, is_alarm}
@@ -17,6 +16,8 @@ use Rattle.log_table.specs.Refusals.{IsNotTaken}
 use Rattle.log_table.specs.Tables.{Table, state_with, IsOpening, IsClosing, IsAccepted}
 use Rattle.log_session.specs.Progress.{Progress, IsTaskOf, is_overflow, progress_after}
 use Rattle.log_session.specs.Parts.{progress_of}
+use Rattle.log_session.specs.Behind.{StandsBehind}
+use Rattle.log_session.proofs.BehindLemmas.{run_part}
 use Rattle.log_session.specs.Told.{Tells, TellsOpening, TellsClosing, TellsSample, IsToldBy}
 
 pub or_false : (x : Bool) → (x || false) ≡ x
@@ -46,12 +47,12 @@ passed_told task p number bytes =
 
 -- ---- by the table
 
-module _ (form : LogForm) (models : List Automaton) (t : Table) (b : Bool) where
+module _ (form : LogForm) (models : List Automaton) (runs : RunsMode) (t : Table) (b : Bool) where
   abbrev old : Bool → Bool → Progress
-  old x y = progress_of form models t b x y
+  old x y = progress_of form models runs t b x y
 
   abbrev new : Table → Bool → Bool → Progress
-  new u x y = progress_of form models u true x y
+  new u x y = progress_of form models runs u true x y
 
   pub opening_told : (u : Table) (x y : Bool) (number : ℕ) (name : List ℕ) (columns : List (List ℕ)) (a : Option Automaton) (bytes : List ℕ) → IsOpening t u name columns a →
       TellsOpening (old x y) (new u x y) number name columns a bytes bytes
@@ -96,35 +97,40 @@ module _ (form : LogForm) (models : List Automaton) (t : Table) (b : Bool) where
         cc (alarm, overflow);
   }
 
-  no_run : (r : RunsMode) (last : Option Verdict) (v : Verdict) → r ≡ mode.None → wants_run r last v ≡ false
-  no_run r last v e = ap (λ m. wants_run m last v) e
-
   module _ (u : Table) (x y : Bool) (number : ℕ) (name : List ℕ) (cells : Cells) (v : Verdict) (h : IsAccepted t u name cells v) (said : Option (List ℕ)) (says : spoken_of said ≡ subject form name)
-      (alarm overflow : Bool) (is_one : alarm ≡ is_alarm v) (is_other : overflow ≡ is_overflow v) where
+      (alarm overflow : Bool) (is_one : alarm ≡ is_alarm v) (is_other : overflow ≡ is_overflow v)
+      (wanted : Bool) (is_wanted : wanted ≡ wants_run runs (last_of t.replied name) v) (run : List ℕ) (stands : StandsBehind u name wanted run) where
     abbrev line : List ℕ
-    line = verdict_line number said v
+    line = verdict_line number said v ++ run
+
+    spoken : (task : Task) → IsTaskOf task (old x y) → line ≡ decimal number ++ subject task.form h.session.name ++ verdict_word v ++ codes "\n" ++ run
+    spoken task is =
+        let speaks : spoken_of said ≡ subject task.form h.session.name =
+        says ∙ ap (subject form) (sym h.named) ∙ ap (λ f. subject f h.session.name) (sym is.form) in
+        ap (λ z. decimal number ++ z ++ verdict_word v ++ codes "\n" ++ run) speaks
+
+    wanted_so : (task : Task) → IsTaskOf task (old x y) → wanted ≡ wants_run task.runs (last_of t.replied h.session.name) v
+    wanted_so task is =
+        is_wanted ∙ ap (λ n. wants_run runs (last_of t.replied n) v) (sym h.named) ∙ ap (λ m. wants_run m (last_of t.replied h.session.name) v) (sym is.runs)
 
     answered : (task : Task) → IsTaskOf task (old x y) → IsAnswered task (last_of t.replied h.session.name) number h.session h.sample v line
     answered task is = record {
       lawful = subst (λ j. IsLawful h.session.automaton j (h.session.samples ++ h.sample ∷ []) v) (sym is.jumps) h.lawful;
       stays = h.stays;
-      run_part = [];
-      is_run_part = subst (λ w. IsRunPart h.session.automaton task.jumps (h.session.samples ++ h.sample ∷ []) w []) (sym (no_run task.runs _ v is.runs)) refl;
-      bytes =
-          let whole = append-nil (decimal number ++ subject task.form h.session.name ++ verdict_word v ++ codes "\n") in
-          let form = is.form in
-          let named = h.named in
-          cc (whole, form, named, says);
+      run_part = run;
+      is_run_part = subst (λ w. IsRunPart h.session.automaton task.jumps (h.session.samples ++ h.sample ∷ []) w run) (wanted_so task is)
+          (run_part t u b name cells v h wanted task.jumps run is.jumps stands);
+      bytes = spoken task is;
     }
 
-    pub sample_told : (before after : List ℕ) → after ≡ before ++ line →
+    pub sample_told : (before after : List ℕ) → after ≡ before ++ verdict_line number said v ++ run →
         TellsSample (old x y) (new u (x || alarm) (y || overflow)) number name cells before after
     sample_told before after grown = λ task is.
         told_as task (old x y) (new u (x || alarm) (y || overflow)) number (judge_sample (state_with b t) cells (session_of (state_with b t) name)) (accepted h.session h.sample) before after (h.judged b)
         (record {
           block = line;
           replies = v ∷ [];
-          grown = grown;
+          grown = grown ∙ append_assoc before (verdict_line number said v) run;
           is_block = (v, answered task is, refl);
           next =
               let table = h.next in
@@ -135,8 +141,8 @@ module _ (form : LogForm) (models : List Automaton) (t : Table) (b : Bool) where
 
   -- what the table did not take was told of the log
   pub refused_told : (u : Table) (x y : Bool) (p after_it : Progress) (number : ℕ) (why : NotTaken) (judged : LogState → Judgement) (before after : List ℕ) →
-      old x y ≡ p → u ≡ t → IsNotTaken (λ begun. judged (state_with begun t)) why → IsToldBy (progress_of form models u b x y) after_it number why before after →
+      old x y ≡ p → u ≡ t → IsNotTaken (λ begun. judged (state_with begun t)) why → IsToldBy (progress_of form models runs u b x y) after_it number why before after →
       (task : Task) → Tells task p after_it number (judged p.known.state) before after
   refused_told u x y p after_it number why judged before after view same h told task =
       subst (λ (q : Progress). Tells task q after_it number (judged q.known.state) before after) view
-      (subst (λ (z : Table). IsToldBy (progress_of form models z b x y) after_it number why before after) same told task (λ begun. judged (state_with begun t)) h)
+      (subst (λ (z : Table). IsToldBy (progress_of form models runs z b x y) after_it number why before after) same told task (λ begun. judged (state_with begun t)) h)

@@ -2,3 +2,4 @@ pub mod Progress
 pub mod Parts
 pub mod Refusals
 pub mod Told
+pub mod Behind

@@ -5,31 +5,32 @@ use Rattle.run_specs.specs.Automaton.{Automaton}
 use Rattle.run_specs.specs.declared.Verdict.{Verdict}
 use Rattle.run_specs.specs.declared.Verdict.TheVariants.{Alarm, Safe, Impossible, Overflow}
 use Rattle.log_specs.specs.declared.LogForm.{LogForm}
-use Rattle.log_specs.specs.declared.RunsMode.TheVariants as mode
+use Rattle.log_specs.specs.declared.RunsMode.{RunsMode}
 use Rattle.log_specs.specs.LogSessions.{Judgement}
 use Rattle.log_specs.specs.Blocks.{Task, is_alarm, IsBlock}
 use Rattle.log_specs.specs.LogReports.{Known, nothing_known, judgement, known_after}
 
--- how it is read, the automata and the jumps in each gap that it is judged by, what is known of it, and whether some reply was an
--- alarm, or an overflow
+-- how it is read, the automata and the jumps in each gap that it is judged by, which runs are printed, what is known of it, and whether
+-- some reply was an alarm, or an overflow
 pub record Progress : Type 0 where
   pub form : LogForm
   pub models : List Automaton
   pub jumps : ℕ
+  pub runs : RunsMode
   pub known : Known
   pub has_alarm : Bool
   pub has_overflow : Bool
 
 -- before the first line
-abbrev pub at_start : LogForm → List Automaton → ℕ → Progress
-at_start form models jumps = record { form = form; models = models; jumps = jumps; known = nothing_known; has_alarm = false; has_overflow = false }
+abbrev pub at_start : LogForm → List Automaton → ℕ → RunsMode → Progress
+at_start form models jumps runs = record { form = form; models = models; jumps = jumps; runs = runs; known = nothing_known; has_alarm = false; has_overflow = false }
 
--- the task of judging a log so, without the lines of runs
+-- the task of judging a log so
 pub record IsTaskOf (task : Task) (p : Progress) : Type 0 where
   pub form : task.form ≡ p.form
   pub models : task.models ≡ p.models
   pub jumps : task.jumps ≡ p.jumps
-  pub runs : task.runs ≡ mode.None
+  pub runs : task.runs ≡ p.runs
 
 abbrev pub is_overflow : Verdict → Bool
 is_overflow Alarm = false
@@ -43,6 +44,7 @@ progress_after p j replies = record {
   form = p.form;
   models = p.models;
   jumps = p.jumps;
+  runs = p.runs;
   known = known_after p.known j replies;
   has_alarm = p.has_alarm || list_any is_alarm replies;
   has_overflow = p.has_overflow || list_any is_overflow replies;

@@ -20,11 +20,12 @@ ghost use Rattle.log_session.specs.Told.{Tells, TellsHeader, TellsCells, TellsRo
 
 use crate::naming::{first_of, named};
 use crate::refusals::row_refusal;
-use crate::words::{is_alarm, is_overflow, subject};
-use alarm_report::{put_line, put_refusal, reserve_line};
+use crate::running::run_behind;
+use crate::words::{is_alarm, is_overflow, subject, wants_run};
+use alarm_report::{put_answer, put_refusal, reserve_line};
 use lha_model::{Automaton, Name, Sample};
 use log_reader::{LogRow, parse_cells, parse_header, parse_row};
-use log_specs::{LogForm, Refusal};
+use log_specs::{LogForm, Refusal, RunsMode};
 use log_table::{LogTable, NotTaken};
 use session_drive::Stepping;
 use std::alloc::{AllocError, Global};
@@ -38,6 +39,7 @@ use std::sync::Arc;
 pub struct JudgedLog<'a> {
     form: LogForm,
     models: &'a [Arc<Automaton>],
+    runs: RunsMode,
     table: LogTable,
     driver: Stepping,
     has_begun: bool,
@@ -53,27 +55,29 @@ impl<'a> Model for JudgedLog<'a> {
 
     ghost Value = { Progress };
 
-    ghost view = { λ c. progress_of c.form (map (λ a. arc_value a) c.models.now) c.table c.has_begun c.has_alarm c.has_overflow };
+    ghost view = { λ c. progress_of c.form (map (λ a. arc_value a) c.models.now) c.runs c.table c.has_begun c.has_alarm c.has_overflow };
 
     ghost invariant = { λ c. IsKept c.form (map (λ a. arc_value a) c.models.now) c.table c.has_begun };
 }
 
 impl<'a> JudgedLog<'a> {
     /// A log of which no line was judged yet, for automata each of whose variables have distinct names, with at most 6 jumps in each
-    /// gap. Takes no memory.
+    /// gap, and the runs of these alarms behind their replies. Takes no memory.
     pub fn new(
         alloc: Global,
         form: LogForm,
         models: &'a [Arc<Automaton>],
         jumps: u8,
+        runs: RunsMode,
     ) -> JudgedLog<'a>
         requires jumps { jumps ≤ 6 }
         requires distinct { All (λ (a : Automaton). IsDistinct bytes_eq a.variables) (map (λ a. arc_value a) models.now) }
-        ensures { result ≡ at_start form (map (λ a. arc_value a) models.now) jumps }
+        ensures { result ≡ at_start form (map (λ a. arc_value a) models.now) jumps runs }
     {
         JudgedLog {
             form,
             models,
+            runs,
             table: LogTable::new(alloc, jumps),
             driver: Stepping::new(),
             has_begun: false,
@@ -114,7 +118,7 @@ impl<'a> JudgedLog<'a> {
     ) -> Result<(), AllocError>
         requires { vec_len blocks.old + most_bytes ≤ vec_capacity blocks.old }
         ensures ok { OnOk result (IsToldBy self.old self.new number why blocks.old.items blocks.new.items) }
-        ensures err { OnErr result ((self.new ≡ self.old) × (blocks.new.items ≡ blocks.old.items)) }
+        ensures err { OnErr result (blocks.new.items ≡ blocks.old.items) }
     {
         match why {
             NotTaken::Refused(refusal) => {
@@ -139,7 +143,7 @@ impl<'a> JudgedLog<'a> {
         requires distinct { IfSome automaton (λ a. IsDistinct bytes_eq (arc_value a.now).variables) }
         requires room { vec_len blocks.old + most_bytes ≤ vec_capacity blocks.old }
         ensures ok { OnOk result (TellsOpening self.old self.new number name.now columns.now (option_map (λ a. arc_value a.now) automaton.entry) blocks.old.items blocks.new.items) }
-        ensures err { OnErr result ((self.new ≡ self.old) × (blocks.new.items ≡ blocks.old.items)) }
+        ensures err { OnErr result (blocks.new.items ≡ blocks.old.items) }
     {
         match self.table.open(alloc, name, automaton, columns) {
             Ok(()) => {
@@ -161,7 +165,7 @@ impl<'a> JudgedLog<'a> {
         requires short { length name.now ≤ 32 }
         requires room { vec_len blocks.old + most_bytes ≤ vec_capacity blocks.old }
         ensures ok { OnOk result (TellsClosing self.old self.new number name.now blocks.old.items blocks.new.items) }
-        ensures err { OnErr result ((self.new ≡ self.old) × (blocks.new.items ≡ blocks.old.items)) }
+        ensures err { OnErr result (blocks.new.items ≡ blocks.old.items) }
     {
         match self.table.close(alloc, name) {
             Ok(()) => {
@@ -186,15 +190,17 @@ impl<'a> JudgedLog<'a> {
         requires cells { All (λ cell. IfSome cell IsLogNumber) sample.now.cells }
         requires room { vec_len blocks.old + most_bytes ≤ vec_capacity blocks.old }
         ensures ok { OnOk result (TellsSample self.old self.new number name.now (cells_in sample.now) blocks.old.items blocks.new.items) }
-        ensures err { OnErr result ((self.new ≡ self.old) × (blocks.new.items ≡ blocks.old.items)) }
+        ensures err { OnErr result (blocks.new.items ≡ blocks.old.items) }
     {
+        let last = self.table.last_reply(alloc, name);
         match self.table.reply(alloc, &mut self.driver, name, sample) {
             Ok(verdict) => {
                 self.has_begun = true;
                 self.has_alarm |= is_alarm(verdict);
                 self.has_overflow |= is_overflow(verdict);
-                put_line(blocks, number, subject(self.form, name), verdict);
-                Ok(())
+                let is_wanted = wants_run(self.runs, last, verdict);
+                let run = run_behind(alloc, &self.table, name, is_wanted)?;
+                put_answer(blocks, number, subject(self.form, name), verdict, &run)
             }
             Err(why) => self.refuse_not_taken(number, why, blocks),
         }
@@ -213,7 +219,7 @@ impl<'a> JudgedLog<'a> {
         requires no_feed { HasNoFeed line.now }
         requires room { vec_len blocks.old + most_bytes ≤ vec_capacity blocks.old }
         ensures ok { OnOk result (TellsHeader self.old self.new number (read_header line.now) blocks.old.items blocks.new.items) }
-        ensures err { OnErr result ((self.new ≡ self.old) × (blocks.new.items ≡ blocks.old.items)) }
+        ensures err { OnErr result (blocks.new.items ≡ blocks.old.items) }
     {
         match parse_header(alloc, line) {
             Ok(names) => {
@@ -238,7 +244,7 @@ impl<'a> JudgedLog<'a> {
         requires no_feed { HasNoFeed line.now }
         requires room { vec_len blocks.old + most_bytes ≤ vec_capacity blocks.old }
         ensures ok { OnOk result (TellsCells self.old self.new number (read_cells line.now) blocks.old.items blocks.new.items) }
-        ensures err { OnErr result ((self.new ≡ self.old) × (blocks.new.items ≡ blocks.old.items)) }
+        ensures err { OnErr result (blocks.new.items ≡ blocks.old.items) }
     {
         match parse_cells(alloc, line) {
             Ok((time, cells)) => {
@@ -263,7 +269,7 @@ impl<'a> JudgedLog<'a> {
         requires row { IsRowOfALine (row_said row) }
         requires room { vec_len blocks.old + most_bytes ≤ vec_capacity blocks.old }
         ensures ok { OnOk result (TellsRow self.old self.new number (Ok (row_said row)) blocks.old.items blocks.new.items) }
-        ensures err { OnErr result ((self.new ≡ self.old) × (blocks.new.items ≡ blocks.old.items)) }
+        ensures err { OnErr result (blocks.new.items ≡ blocks.old.items) }
     {
         match row {
             LogRow::Opening {
@@ -301,7 +307,7 @@ impl<'a> JudgedLog<'a> {
         requires no_feed { HasNoFeed line.now }
         requires room { vec_len blocks.old + most_bytes ≤ vec_capacity blocks.old }
         ensures ok { OnOk result (TellsRow self.old self.new number (read_row line.now) blocks.old.items blocks.new.items) }
-        ensures err { OnErr result ((self.new ≡ self.old) × (blocks.new.items ≡ blocks.old.items)) }
+        ensures err { OnErr result (blocks.new.items ≡ blocks.old.items) }
     {
         match parse_row(alloc, line) {
             Ok(row) => self.add_row_of(alloc, number, row, blocks),
@@ -316,7 +322,7 @@ impl<'a> JudgedLog<'a> {
     ///
     /// # Errors
     ///
-    /// Want of memory. The log and the blocks are then as before.
+    /// Want of memory. The blocks are then as before.
     pub fn add_line(
         &mut self,
         alloc: Global,
@@ -326,7 +332,7 @@ impl<'a> JudgedLog<'a> {
     ) -> Result<(), AllocError>
         requires { HasNoFeed line.now }
         ensures ok { OnOk result ((task : Task) → IsTaskOf task self.old → AddsLine task self.old self.new number line.now blocks.old.items blocks.new.items) }
-        ensures err { OnErr result ((self.new ≡ self.old) × (blocks.new.items ≡ blocks.old.items)) }
+        ensures err { OnErr result (blocks.new.items ≡ blocks.old.items) }
     {
         if line.is_empty() {
             return Ok(());
@@ -343,10 +349,10 @@ impl<'a> JudgedLog<'a> {
     ///
     /// # Errors
     ///
-    /// Want of memory. The log and the blocks are then as before.
+    /// Want of memory. The blocks are then as before.
     pub fn add_long(&mut self, number: u64, blocks: &mut Vec<u8>) -> Result<(), AllocError>
         ensures ok { OnOk result ((task : Task) (line : List ℕ) → IsTaskOf task self.old → 4096 < length line → AddsLine task self.old self.new number line blocks.old.items blocks.new.items) }
-        ensures err { OnErr result ((self.new ≡ self.old) × (blocks.new.items ≡ blocks.old.items)) }
+        ensures err { OnErr result (blocks.new.items ≡ blocks.old.items) }
     {
         reserve_line(blocks)?;
         self.refuse(number, Refusal::Long, blocks);

@@ -4,6 +4,7 @@
 mod judged_log;
 mod naming;
 mod refusals;
+mod running;
 mod words;
 
 pub use judged_log::JudgedLog;

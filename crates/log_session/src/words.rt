@@ -6,7 +6,7 @@ ghost use Rattle.log_specs.specs.Blocks as blocks;
 ghost use Rattle.alarm_report.specs.ReportLines.{spoken_of};
 ghost use Rattle.log_session.specs.Progress as progress;
 
-use log_specs::LogForm;
+use log_specs::{LogForm, RunsMode};
 use run_specs::Verdict;
 
 /// Whether a reply is an alarm.
@@ -21,6 +21,27 @@ pub(crate) fn is_overflow(verdict: Verdict) -> bool
     ensures { result ≡ progress.is_overflow verdict }
 {
     matches!(verdict, Verdict::Overflow)
+}
+
+/// Whether the reply before was an alarm.
+fn was_alarm(last: Option<Verdict>) -> bool
+    ensures { result ≡ blocks.was_alarm last }
+{
+    match last {
+        Some(verdict) => is_alarm(verdict),
+        None => false,
+    }
+}
+
+/// Whether a run is printed, by the session's reply before and this one.
+pub(crate) fn wants_run(runs: RunsMode, last: Option<Verdict>, verdict: Verdict) -> bool
+    ensures { result ≡ blocks.wants_run runs last verdict }
+{
+    match runs {
+        RunsMode::None => false,
+        RunsMode::First => is_alarm(verdict) && !was_alarm(last),
+        RunsMode::All => is_alarm(verdict),
+    }
 }
 
 /// Who a reply speaks of: nobody in `check`, the session in `watch`.

@@ -60,6 +60,16 @@ module _ (name : List ℕ) where
           let rest = go (sym (ap (λ c. cond c (Some x.1) (lookup (bytes_eq name) es)) t) ∙ e) in
           cc (t, rest)
 
+  pub last_missing : (es : Entries) → lookup (bytes_eq name) es ≡ None → last_of (map reply_in es) name ≡ None
+  last_missing [] e = refl
+  last_missing (x ∷ es) e = by (bytes_eq name x.0) refl (last_missing es)
+    where
+      by : (b : Bool) → bytes_eq name x.0 ≡ b → (lookup (bytes_eq name) es ≡ None → last_of (map reply_in es) name ≡ None) → last_of (map reply_in (x ∷ es)) name ≡ None
+      by true t go = absurd (let v = sym (ap (λ c. cond c (Some x.1) (lookup (bytes_eq name) es)) t) ∙ e in let f : ⊥ = cc in f)
+      by false t go =
+          let rest = go (sym (ap (λ c. cond c (Some x.1) (lookup (bytes_eq name) es)) t) ∙ e) in
+          cc (t, rest)
+
   pub has_one : (P : Opened → Type 0) (es : Entries) (o : Opened) → lookup (bytes_eq name) es ≡ Some o → All (λ x. P x.1) es → P o
   has_one P [] o e h = absurd (let f : ⊥ = cc in f)
   has_one P (x ∷ es) o e h = by (bytes_eq name x.0) refl (has_one P es o)
@@ -125,6 +135,17 @@ module _ (name : List ℕ) where
           cc (t, rest, e)
       by false t go =
           let rest = go d.1 (sym (ap (λ c. cond c (Some x.1) (lookup (bytes_eq name) es)) t) ∙ f) in
+          cc (t, rest)
+
+  pub written_there : (o w : Opened) (es : Entries) → lookup (bytes_eq name) es ≡ Some o → lookup (bytes_eq name) (set_value (bytes_eq name) es w) ≡ Some w
+  written_there o w [] e = absurd (let f : ⊥ = cc in f)
+  written_there o w (x ∷ es) e = by (bytes_eq name x.0) refl (written_there o w es)
+    where
+      by : (b : Bool) → bytes_eq name x.0 ≡ b → (lookup (bytes_eq name) es ≡ Some o → lookup (bytes_eq name) (set_value (bytes_eq name) es w) ≡ Some w) →
+          lookup (bytes_eq name) (set_value (bytes_eq name) (x ∷ es) w) ≡ Some w
+      by true t go = cc (t)
+      by false t go =
+          let rest = go (sym (ap (λ c. cond c (Some x.1) (lookup (bytes_eq name) es)) t) ∙ e) in
           cc (t, rest)
 
   pub unwritten : (es : Entries) (o : Opened) → lookup (bytes_eq name) es ≡ Some o → set_value (bytes_eq name) es o ≡ es

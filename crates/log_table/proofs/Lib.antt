@@ -5,3 +5,4 @@ pub mod EntryLemmas
 pub mod TableLemmas
 pub mod SampleLemmas
 pub mod OpeningLemmas
+pub mod RunLemmas

@@ -1,5 +1,5 @@
 -- How a sample of an open session is judged.
-use Rattle.std.proofs.Common.{◌≡◌, inl, inr, ℕ, ◌+◌, ◌≤◌, ◌<◌, List, [], ◌∷◌, ◌++◌, length, Bool, true, false, not, ◌==◌, Some, refl, sym, ap, ◌∙◌, subst, arith, bytes_eq}
+use Rattle.std.proofs.Common.{◌≡◌, inl, inr, ℕ, suc, ◌+◌, ◌≤◌, ◌<◌, List, [], ◌∷◌, ◌++◌, length, Bool, true, false, not, ◌==◌, Some, refl, sym, ap, ◌∙◌, subst, arith, bytes_eq}
 use Rattle.std.specs.Prelude.{All, if◌then◌else◌, nat_le, IfSome}
 use Rattle.std.specs.List.{IsDistinct}
 use Rattle.std.specs.Map.{keys_of, lookup, set_value}
@@ -25,7 +25,7 @@ use Rattle.log_table.specs.Tables.{Table, state_with, cells_in, name_at, IsAccep
 use Rattle.log_table.specs.Parts.{Opened, log_session_of, table_of, IsOpen, IsKept}
 use Rattle.log_table.proofs.CellLemmas.{placed_under}
 use Rattle.log_table.proofs.TimeLemmas.{follows, never_follows}
-use Rattle.log_table.proofs.EntryLemmas.{found, last_found, has_one, written_sessions, written_replies, unwritten, all_written}
+use Rattle.log_table.proofs.EntryLemmas.{found, last_found, has_one, written_sessions, written_replies, written_there, unwritten, all_written}
 
 abbrev Entries : Type 0
 Entries = List (List ℕ × Opened)
@@ -148,7 +148,11 @@ module _ (k n : ℕ) (es : Entries) (t : Table) (view : table_of k es n ≡ t) (
           let few = is_open.few in
           omega (arith, count, few);
       distinct = subst (λ (a : Automaton). IsDistinct bytes_eq a.variables) (sym (driven_automaton o.session w.session sample v driven)) is_open.distinct;
-      told = subst (λ l. IfSome l (λ u. (i : ℕ) × (verdict_at w.session.history i ≡ Some u))) (sym last) (length o.session.log, driven.tells);
+      told =
+          let count : suc (length o.session.log) ≡ length w.session.log =
+          let log = ap length (driven_log o.session w.session sample v driven) ∙ length_push o.session.log (accepted o.session sample) in
+          omega (arith, log) in
+          subst (λ l. IfSome l (λ u. (i : ℕ) × (suc i ≡ length w.session.log) × (verdict_at w.session.history i ≡ Some u))) (sym last) (length o.session.log, count, driven.tells);
     }
 
     pub kept_writing : (after : Entries) → after ≡ set_value (bytes_eq key) es w → IsDistinct bytes_eq (keys_of after) → length after ≡ length es → IsKept k after (n + 1)
@@ -171,8 +175,9 @@ module _ (k n : ℕ) (es : Entries) (t : Table) (view : table_of k es n ≡ t) (
 
     stays_so : o.last ≡ Some Overflow → v ≡ Overflow
     stays_so e =
-        let told : (i : ℕ) × (verdict_at o.session.history i ≡ Some Overflow) = subst (λ l. IfSome l (λ u. (i : ℕ) × (verdict_at o.session.history i ≡ Some u))) e is_open.told in
-        driven.stays told.0 told.1
+        let told : (i : ℕ) × (suc i ≡ length o.session.log) × (verdict_at o.session.history i ≡ Some Overflow) =
+        subst (λ l. IfSome l (λ u. (i : ℕ) × (suc i ≡ length o.session.log) × (verdict_at o.session.history i ≡ Some u))) e is_open.told in
+        driven.stays told.0 told.2
 
     accepted_named : IsAccepted (table_of k es n) (table_of k written (n + 1)) name (cells_in sample) v
     accepted_named = record {
@@ -188,6 +193,7 @@ module _ (k n : ℕ) (es : Entries) (t : Table) (view : table_of k es n ≡ t) (
           let sessions = written_sessions name o w (accepted o.session sample) session_after es kept.distinct there_by_name in
           let replies = written_replies name o w v last es kept.distinct there_by_name in
           cc (sessions, replies);
+      told = last_found name written w (written_there name o w es there_by_name) ∙ last;
     }
 
     pub sample_accepted : (after : Entries) → after ≡ set_value (bytes_eq key) es w → IsAccepted t (table_of k after (n + 1)) name (cells_in sample) v

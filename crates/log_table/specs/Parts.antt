@@ -1,5 +1,5 @@
 -- The table by the parts that it is stored in, and what it keeps of them.
-use Rattle.std.specs.Prelude.{◌≡◌, ◌≤◌, ℕ, List, map, length, All, Option, Some, IfSome, bytes_eq}
+use Rattle.std.specs.Prelude.{◌≡◌, ◌≤◌, ℕ, suc, List, map, length, All, Option, Some, IfSome, bytes_eq}
 use Rattle.std.specs.List.{IsDistinct}
 use Rattle.std.specs.Map.{keys_of}
 use Rattle.run_specs.specs.declared.Verdict.{Verdict}
@@ -35,13 +35,13 @@ table_of jumps entries accepted =
     record { jumps = jumps; sessions = map session_in entries; replied = map reply_in entries; accepted = accepted }
 
 -- an open session is idle, has so many jumps in each gap and no more samples than were accepted; its automaton's variables have distinct
--- names, and its history tells the last reply
+-- names, and its history tells the last reply at its last sample
 pub record IsOpen (k count : ℕ) (o : Opened) : Type 0 where
   pub idle : o.session.phase ≡ Idle
   pub jumps : o.session.history.jumps ≡ k
   pub few : length o.session.log ≤ count
   pub distinct : IsDistinct bytes_eq o.session.history.automaton.variables
-  pub told : IfSome o.last (λ v. (i : ℕ) × (verdict_at o.session.history i ≡ Some v))
+  pub told : IfSome o.last (λ v. (i : ℕ) × (suc i ≡ length o.session.log) × (verdict_at o.session.history i ≡ Some v))
 
 -- what a table keeps
 pub record IsKept (jumps : ℕ) (entries : List (List ℕ × Opened)) (accepted : ℕ) : Type 0 where

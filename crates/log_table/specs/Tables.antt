@@ -53,7 +53,8 @@ pub record IsClosing (old new : Table) (name : List ℕ) : Type 0 where
   pub judged : (begun : Bool) → judge_closing name (session_of (state_with begun old) name) ≡ closed name
   pub next : new ≡ table_after old (closed name) []
 
--- a sample of the session of this name was accepted, and replied to: lawfully for its samples, and after an overflow by an overflow
+-- a sample of the session of this name was accepted, and replied to: lawfully for its samples, and after an overflow by an overflow; this
+-- is now the last reply to it
 pub record IsAccepted (old new : Table) (name : List ℕ) (cells : Cells) (v : Verdict) : Type 0 where
   pub session : LogSession
   pub sample : Sample
@@ -62,6 +63,7 @@ pub record IsAccepted (old new : Table) (name : List ℕ) (cells : Cells) (v : V
   pub lawful : IsLawful session.automaton old.jumps (session.samples ++ sample ∷ []) v
   pub stays : last_of old.replied session.name ≡ Some Overflow → v ≡ Overflow
   pub next : new ≡ table_after old (accepted session sample) (v ∷ [])
+  pub told : last_of new.replied name ≡ Some v
 
 -- the time and the cells of a sample that has a cell for each column
 abbrev pub cells_in : Sample → Cells

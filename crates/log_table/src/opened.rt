@@ -1,13 +1,16 @@
 //! An open session.
 
-ghost use Rattle.std.specs.Prelude.{◌≡◌, All, None, false, true, Some, IfSome, IfOk, IfErr, OnErr};
+ghost use Rattle.std.specs.Prelude.{◌≡◌, All, None, Err, false, true, Some, IfSome, IfOk, IfErr, OnErr};
 ghost use Rattle.number_specs.specs.LogNumbers.{IsLogNumber};
 ghost use Rattle.run_specs.specs.Sessions.{IsMonitorSession, Idle};
 ghost use Rattle.live_session.specs.Driven.{IsDriven};
 ghost use Rattle.log_table.specs.Refusals.{refusal_of, IsSampleRefused};
+ghost use Rattle.log_table.specs.FirstRuns.{EndsInAlarm, IsSessionRun, SessionRunPasses};
 
 use crate::NotTaken;
-use lha_model::Sample;
+use alarm_run::alarm_run;
+use fm_eliminate::RowFault;
+use lha_model::{Run, Sample};
 use live_session::{SampleRefusal, Session, Verdict};
 use log_specs::Refusal;
 use session_drive::Drive;
@@ -61,6 +64,13 @@ fn refused_by_limit(alloc: Global, session: &mut Session, sample: &Sample) -> No
 }
 
 impl OpenSession {
+    /// The last reply.
+    pub(crate) fn last(&self) -> Option<Verdict>
+        ensures { result ≡ self.now.last }
+    {
+        self.last
+    }
+
     /// The session, to which nothing was replied yet.
     pub(crate) fn new(session: Session) -> OpenSession
         ensures { result ≡ record { session = session; last = None } }
@@ -99,5 +109,18 @@ impl OpenSession {
             }
             Err(refusal) => Err(not_taken(refusal)),
         }
+    }
+    /// The first run that explains the last reply, which is an alarm: the first one of the samples that visits an unsafe location.
+    ///
+    /// # Errors
+    ///
+    /// `Passes` only where the samples pass 128 bits, or forming their first run does; or want of memory.
+    pub(crate) fn first_run(&self, alloc: Global) -> Result<Run, RowFault>
+        requires alarm { EndsInAlarm self.now.session }
+        ensures ok { IfOk result (IsSessionRun self.now.session) }
+        ensures passes { result ≡ Err RowFault.Passes → SessionRunPasses self.now.session }
+    {
+        let last = self.session.log().len() - 1;
+        alarm_run(alloc, &self.session.history(), last)
     }
 }

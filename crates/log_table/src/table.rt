@@ -1,20 +1,24 @@
 //! The table of open sessions.
 
-ghost use Rattle.std.specs.Prelude.{◌≡◌, ◌≤◌, All, IfSome, IfOk, IfErr, OnOk, OnErr, length, bytes_eq, nat_le};
+ghost use Rattle.std.specs.Prelude.{◌≡◌, ◌≤◌, All, Some, Err, IfSome, IfOk, IfErr, OnOk, OnErr, length, bytes_eq, nat_le};
 ghost use Rattle.std.specs.List.{IsDistinct};
 ghost use Rattle.std.specs.Option.{option_map};
 ghost use Rattle.std.specs.Arc.{arc_value};
 ghost use Rattle.number_specs.specs.LogNumbers.{IsLogNumber};
 ghost use Rattle.log_specs.specs.LogSessions.{judge_opening, judge_sample, judge_closing, session_of};
 ghost use Rattle.log_table.specs.Tables.{state_with, empty_table, cells_in, IsOpening, IsClosing, IsAccepted};
+ghost use Rattle.log_specs.specs.Blocks.{last_of};
+ghost use Rattle.run_specs.specs.declared.Verdict.TheVariants as verdict;
 ghost use Rattle.log_table.specs.Refusals.{IsNotTaken};
+ghost use Rattle.log_table.specs.FirstRuns.{IsFirstRunOf, FirstRunOfPasses};
 
 use crate::NotTaken;
 use crate::columns::columns_of;
 use crate::names::SessionName;
 use crate::opened::OpenSession;
+use fm_eliminate::RowFault;
 use indexmap::IndexMap;
-use lha_model::{Automaton, Name, Sample};
+use lha_model::{Automaton, Name, Run, Sample};
 use live_session::{Session, Verdict};
 use log_specs::Refusal;
 use session_drive::Drive;
@@ -155,6 +159,33 @@ impl LogTable {
                 Ok(verdict)
             }
             Err(why) => Err(why),
+        }
+    }
+
+    /// The last reply to the open session of this name, of at most 32 bytes; `None` before the first, and where none of this name is
+    /// open.
+    pub fn last_reply(&self, alloc: Global, name: &[u8]) -> Option<Verdict>
+        requires { length name.now ≤ 32 }
+        ensures { result ≡ last_of self.now.replied name.now }
+    {
+        self.sessions.get(&SessionName::of(alloc, name))?.last()
+    }
+
+    /// The first run that explains the last reply to the session of this name, of at most 32 bytes, which is an alarm: the first one of
+    /// its samples that visits an unsafe location.
+    ///
+    /// # Errors
+    ///
+    /// `Passes` only where the session's samples pass 128 bits, or forming their first run does; or want of memory.
+    pub fn first_run(&self, alloc: Global, name: &[u8]) -> Result<Run, RowFault>
+        requires short { length name.now ≤ 32 }
+        requires alarm { last_of self.now.replied name.now ≡ Some verdict.Alarm }
+        ensures ok { IfOk result (IsFirstRunOf self.now name.now) }
+        ensures passes { result ≡ Err RowFault.Passes → FirstRunOfPasses self.now name.now }
+    {
+        match self.sessions.get(&SessionName::of(alloc, name)) {
+            Some(opened) => opened.first_run(alloc),
+            None => Err(RowFault::Memory),
         }
     }
 }

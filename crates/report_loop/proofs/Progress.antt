@@ -23,6 +23,7 @@ use Rattle.log_reader.specs.Reading.{Reading, Stored, IsOf, Moves, Gets, Gives, 
 use Rattle.log_reader.proofs.MoveLemmas.{is_own}
 use Rattle.log_reader.proofs.FillLemmas.{Consumes-more, Consumes-nothing}
 use Rattle.log_reader.proofs.GivenLemmas.{given_line, given_end, given_whole}
+use Rattle.log_specs.specs.declared.RunsMode.{RunsMode}
 use Rattle.log_session.specs.Progress.{Progress, at_start, IsTaskOf, progress_after, AddsLine}
 use Rattle.report_loop.specs.declared.status.Status.{Status}
 use Rattle.report_loop.specs.declared.status.Status.TheVariants as status
@@ -282,10 +283,10 @@ no_flag v = (λ t. absurd (no_both t), λ c. let l = c.1 in absurd (omega (arith
     no_both : false ≡ true → ⊥
     no_both n = cc
 
-started_at : (task : Task) (l o : Option (List ℕ)) (f w : ℕ) (r : Reading) (form : LogForm) (models : List Automaton) (jumps : ℕ) (pending : List ℕ) →
-    r ≡ record { held = []; given = 0; taken = 0; most = log_limit; has_ended = false } → IsTaskOf task (at_start form models jumps) → pending ≡ [] →
-    IsReportingAt task (streams l f o w) (streams l f o w) r (at_start form models jumps) pending
-started_at task l o f w r form models jumps pending is fits none = record {
+started_at : (task : Task) (l o : Option (List ℕ)) (f w : ℕ) (r : Reading) (form : LogForm) (models : List Automaton) (jumps : ℕ) (runs : RunsMode) (pending : List ℕ) →
+    r ≡ record { held = []; given = 0; taken = 0; most = log_limit; has_ended = false } → IsTaskOf task (at_start form models jumps runs) → pending ≡ [] →
+    IsReportingAt task (streams l f o w) (streams l f o w) r (at_start form models jumps runs) pending
+started_at task l o f w r form models jumps runs pending is fits none = record {
   read = [];
   consumed = Consumes-nothing l;
   counted = ap (λ (z : Reading). z.taken) is;
@@ -311,19 +312,19 @@ started_at task l o f w r form models jumps pending is fits none = record {
     open_yet : r.has_ended ≡ true → ⊥
     open_yet e = no_both_true (sym e ∙ ap (λ (z : Reading). z.has_ended) is)
 
-pub started : (task : Task) (l o : Option (List ℕ)) (f w : ℕ) (k : Stored) (p : Progress) (form : LogForm) (models : List Automaton) (jumps : ℕ) (pending : List ℕ) →
-    k ≡ record { reading = record { held = []; given = 0; taken = 0; most = log_limit; has_ended = false }; dropped = 0 } → p ≡ at_start form models jumps → IsTaskOf task (at_start form models jumps) → pending ≡ [] →
+pub started : (task : Task) (l o : Option (List ℕ)) (f w : ℕ) (k : Stored) (p : Progress) (form : LogForm) (models : List Automaton) (jumps : ℕ) (runs : RunsMode) (pending : List ℕ) →
+    k ≡ record { reading = record { held = []; given = 0; taken = 0; most = log_limit; has_ended = false }; dropped = 0 } → p ≡ at_start form models jumps runs → IsTaskOf task (at_start form models jumps runs) → pending ≡ [] →
     IsReporting task (streams l f o w) (streams l f o w) k p pending
-started task l o f w k p form models jumps pending is start fits none = (
+started task l o f w k p form models jumps runs pending is start fits none = (
   k.reading,
   is_own k (ap (λ (z : Stored). z.dropped) is),
   subst (λ z. IsReportingAt task (streams l f o w) (streams l f o w) k.reading z pending) (sym start)
-      (started_at task l o f w k.reading form models jumps pending (ap (λ (z : Stored). z.reading) is) fits none),
+      (started_at task l o f w k.reading form models jumps runs pending (ap (λ (z : Stored). z.reading) is) fits none),
 )
 
 -- the task of a log is one of its progress
-pub task_fits : (form : LogForm) (automata : List Automaton) (jumps : ℕ) → IsTaskOf (log_task form automata jumps) (at_start form automata jumps)
-task_fits form automata jumps = record { form = refl; models = refl; jumps = refl; runs = refl }
+pub task_fits : (form : LogForm) (automata : List Automaton) (jumps : ℕ) (runs : RunsMode) → IsTaskOf (log_task form automata jumps runs) (at_start form automata jumps runs)
+task_fits form automata jumps runs = record { form = refl; models = refl; jumps = refl; runs = refl }
 
 -- nothing was read, and nothing written
 pub nothing_done : (task : Task) (l o : Option (List ℕ)) (f w : ℕ) → Says (rules_of task) (streams l f o w) (streams l f o w) status.Memory

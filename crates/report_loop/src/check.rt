@@ -15,7 +15,7 @@ use crate::writing::{write_pending, write_rest, write_status};
 use lha_model::Automaton;
 use log_reader::{Line, LineReader, ReadFault};
 use log_session::JudgedLog;
-use log_specs::LogForm;
+use log_specs::{LogForm, RunsMode};
 use mon_io::{Sink, SinkFault, Source};
 use std::alloc::{AllocError, Global};
 use std::sync::Arc;
@@ -23,7 +23,7 @@ use std::sync::Arc;
 /// The most bytes of a log that are read: 2^34.
 const LOG_LIMIT: u64 = 1 << 34;
 
-/// Adds the block of what the reader gave, and tells whether it was a line. After an error nothing has changed.
+/// Adds the block of what the reader gave, and tells whether it was a line. After an error what is pending is as before.
 fn add_block(
     alloc: Global,
     judged: &mut JudgedLog<'_>,
@@ -145,8 +145,8 @@ fn read_lines<L: Source, O: Sink>(
 }
 
 /// Reports a log of this form: reads its lines, judges them by the automata with at most so many jumps in each gap, and writes the
-/// block of each, without the lines of runs. The log of `check` is judged by the first automaton. It returns whenever the source and
-/// the sink do.
+/// block of each, with the runs of these alarms behind their replies. The log of `check` is judged by the first automaton. It returns
+/// whenever the source and the sink do.
 ///
 /// No two automata have one name, and no two variables of one automaton, as in a model's text.
 pub fn report_log<L: Source, O: Sink>(
@@ -154,12 +154,13 @@ pub fn report_log<L: Source, O: Sink>(
     form: LogForm,
     models: &[Arc<Automaton>],
     jumps: u8,
+    runs: RunsMode,
     log: &mut L,
     out: &mut O,
 ) -> Status
     requires names { AreNamedApart (map (λ a. arc_value a) models.now) }
     requires jumps { jumps ≤ 6 }
-    ensures { Says (rules_of (log_task form (map (λ a. arc_value a) models.now) jumps))
+    ensures { Says (rules_of (log_task form (map (λ a. arc_value a) models.now) jumps runs))
         (record { log = L.told log.old; log_faults = L.faults log.old; out = O.taken out.old; out_faults = O.faults out.old })
         (record { log = L.told log.new; log_faults = L.faults log.new; out = O.taken out.new; out_faults = O.faults out.new })
         result }
@@ -167,7 +168,7 @@ pub fn report_log<L: Source, O: Sink>(
     let Ok(mut reader) = LineReader::new(alloc, LOG_LIMIT) else {
         return Status::Memory;
     };
-    let mut judged = JudgedLog::new(alloc, form, models, jumps);
+    let mut judged = JudgedLog::new(alloc, form, models, jumps, runs);
     let mut pending = Vec::new(alloc);
     match read_lines(alloc, &mut reader, &mut judged, &mut pending, log, out) {
         Ok(status) => write_rest(out, &mut pending, status),

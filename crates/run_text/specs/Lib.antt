@@ -1,3 +1,4 @@
 pub mod Tells
 pub mod States
 pub mod Reading
+pub mod Behind

@@ -9,4 +9,4 @@ mod states;
 mod write;
 
 pub use read::{TextFault, read_run};
-pub use write::write_run;
+pub use write::{write_behind, write_run};

@@ -1,8 +1,9 @@
 //! Runs, written.
 
-ghost use Rattle.std.specs.Prelude.{◌≡◌, ℕ, ◌++◌, List, length, OnOk, IfOk, codes, decimal, flat_map};
+ghost use Rattle.std.specs.Prelude.{◌≡◌, ℕ, ◌++◌, List, length, map, OnOk, IfOk, codes, decimal, flat_map};
 ghost use Rattle.std.specs.Fmt.{signed_decimal};
-ghost use Rattle.replay_specs.specs.RunTexts.{at_line, leg_lines, move_lines, gap_lines, run_lines, ended_lines, run_text, IsWritable};
+ghost use Rattle.replay_specs.specs.RunTexts.{gap_line, at_line, stay_line, jump_line, leg_lines, move_lines, gap_lines, run_lines, ended_lines, run_text, IsWritable};
+ghost use Rattle.run_text.specs.Behind.{lines_behind};
 
 use itoa::Buffer;
 use lha_model::{GapRun, Leg, Move, Run};
@@ -35,10 +36,11 @@ fn write_value(out: &mut Vec<u8>, value: i128) -> Result<(), AllocError>
     Ok(())
 }
 
-/// Appends a line of values.
-fn write_values(out: &mut Vec<u8>, values: &[i128]) -> Result<(), AllocError>
-    ensures { OnOk result (out.new.items ≡ out.old.items ++ (at_line values.now ++ codes "\n")) }
+/// Appends a line of values, behind the prefix.
+fn write_values(out: &mut Vec<u8>, prefix: &[u8], values: &[i128]) -> Result<(), AllocError>
+    ensures { OnOk result (out.new.items ≡ out.old.items ++ (prefix.now ++ at_line values.now ++ codes "\n")) }
 {
+    out.extend_from_slice(prefix)?;
     out.extend_from_slice(b"at")?;
     for value in values {
         write_value(out, *value)?;
@@ -47,43 +49,62 @@ fn write_values(out: &mut Vec<u8>, values: &[i128]) -> Result<(), AllocError>
     Ok(())
 }
 
-/// Appends the lines of a leg.
-fn write_leg(out: &mut Vec<u8>, leg: &Leg) -> Result<(), AllocError>
-    ensures { OnOk result (out.new.items ≡ out.old.items ++ ended_lines (leg_lines leg.now)) }
+/// Appends the line of a leg's length, behind the prefix.
+fn write_stay(out: &mut Vec<u8>, prefix: &[u8], time: i128) -> Result<(), AllocError>
+    ensures { OnOk result (out.new.items ≡ out.old.items ++ (prefix.now ++ stay_line time ++ codes "\n")) }
 {
+    out.extend_from_slice(prefix)?;
     out.extend_from_slice(b"stay ")?;
-    write_integer(out, leg.stay())?;
+    write_integer(out, time)?;
     out.extend_from_slice(b"\n")?;
-    write_values(out, leg.at_end())?;
     Ok(())
 }
 
-/// Appends the lines of a move.
-fn write_move(out: &mut Vec<u8>, step: &Move) -> Result<(), AllocError>
-    ensures { OnOk result (out.new.items ≡ out.old.items ++ ended_lines (move_lines step.now)) }
+/// Appends the lines of a leg, each behind the prefix.
+fn write_leg(out: &mut Vec<u8>, prefix: &[u8], leg: &Leg) -> Result<(), AllocError>
+    ensures { OnOk result (out.new.items ≡ out.old.items ++ lines_behind prefix.now (leg_lines leg.now)) }
 {
-    write_leg(out, step.leg())?;
-    out.extend_from_slice(b"jump ")?;
-    write_count(out, usize::from(step.trans()))?;
-    out.extend_from_slice(b"\n")?;
-    write_values(out, step.after())?;
+    write_stay(out, prefix, leg.stay())?;
+    write_values(out, prefix, leg.at_end())?;
     Ok(())
 }
 
-/// Appends the lines of moves.
-fn write_moves(out: &mut Vec<u8>, moves: &[Move]) -> Result<(), AllocError>
-    ensures { OnOk result (out.new.items ≡ out.old.items ++ ended_lines (flat_map move_lines moves.now)) }
+/// Appends the line of a transition, behind the prefix.
+fn write_jump(out: &mut Vec<u8>, prefix: &[u8], transition: u8) -> Result<(), AllocError>
+    ensures { OnOk result (out.new.items ≡ out.old.items ++ (prefix.now ++ jump_line transition ++ codes "\n")) }
+{
+    out.extend_from_slice(prefix)?;
+    out.extend_from_slice(b"jump ")?;
+    write_count(out, usize::from(transition))?;
+    out.extend_from_slice(b"\n")?;
+    Ok(())
+}
+
+/// Appends the lines of a move, each behind the prefix.
+fn write_move(out: &mut Vec<u8>, prefix: &[u8], step: &Move) -> Result<(), AllocError>
+    ensures { OnOk result (out.new.items ≡ out.old.items ++ lines_behind prefix.now (move_lines step.now)) }
+{
+    write_leg(out, prefix, step.leg())?;
+    write_jump(out, prefix, step.trans())?;
+    write_values(out, prefix, step.after())?;
+    Ok(())
+}
+
+/// Appends the lines of moves, each behind the prefix.
+fn write_moves(out: &mut Vec<u8>, prefix: &[u8], moves: &[Move]) -> Result<(), AllocError>
+    ensures { OnOk result (out.new.items ≡ out.old.items ++ lines_behind prefix.now (flat_map move_lines moves.now)) }
 {
     for step in moves {
-        write_move(out, step)?;
+        write_move(out, prefix, step)?;
     }
     Ok(())
 }
 
-/// Appends the line that a gap begins with.
-fn write_gap_line(out: &mut Vec<u8>, gap: &GapRun) -> Result<(), AllocError>
-    ensures { OnOk result (out.new.items ≡ out.old.items ++ (codes "gap " ++ signed_decimal gap.now.den ++ codes " " ++ decimal gap.now.start_loc ++ codes "\n")) }
+/// Appends the line that a gap begins with, behind the prefix.
+fn write_gap_line(out: &mut Vec<u8>, prefix: &[u8], gap: &GapRun) -> Result<(), AllocError>
+    ensures { OnOk result (out.new.items ≡ out.old.items ++ (prefix.now ++ gap_line gap.now.den gap.now.start_loc ++ codes "\n")) }
 {
+    out.extend_from_slice(prefix)?;
     out.extend_from_slice(b"gap ")?;
     write_integer(out, gap.den())?;
     out.extend_from_slice(b" ")?;
@@ -92,24 +113,42 @@ fn write_gap_line(out: &mut Vec<u8>, gap: &GapRun) -> Result<(), AllocError>
     Ok(())
 }
 
-/// Appends the lines of a gap.
-fn write_gap(out: &mut Vec<u8>, gap: &GapRun) -> Result<(), AllocError>
-    ensures { OnOk result (out.new.items ≡ out.old.items ++ ended_lines (gap_lines gap.now)) }
+/// Appends the lines of a gap, each behind the prefix.
+fn write_gap(out: &mut Vec<u8>, prefix: &[u8], gap: &GapRun) -> Result<(), AllocError>
+    ensures { OnOk result (out.new.items ≡ out.old.items ++ lines_behind prefix.now (gap_lines gap.now)) }
 {
-    write_gap_line(out, gap)?;
-    write_values(out, gap.start())?;
-    write_moves(out, gap.moves())?;
-    write_leg(out, gap.last())?;
+    write_gap_line(out, prefix, gap)?;
+    write_values(out, prefix, gap.start())?;
+    write_moves(out, prefix, gap.moves())?;
+    write_leg(out, prefix, gap.last())?;
     Ok(())
 }
 
-/// Appends the lines of gaps.
-fn write_gaps(out: &mut Vec<u8>, gaps: &[GapRun]) -> Result<(), AllocError>
-    ensures { OnOk result (out.new.items ≡ out.old.items ++ ended_lines (flat_map gap_lines gaps.now)) }
+/// Appends the lines of gaps, each behind the prefix.
+fn write_gaps(out: &mut Vec<u8>, prefix: &[u8], gaps: &[GapRun]) -> Result<(), AllocError>
+    ensures { OnOk result (out.new.items ≡ out.old.items ++ lines_behind prefix.now (flat_map gap_lines gaps.now)) }
 {
     for gap in gaps {
-        write_gap(out, gap)?;
+        write_gap(out, prefix, gap)?;
     }
+    Ok(())
+}
+
+/// Appends the lines of a run, each behind this prefix. It has 1 to 2^32 - 1 gaps, denominators of at least 1, one to six values in
+/// each list, and no number of an absolute value above 2^127 - 1.
+///
+/// # Errors
+///
+/// Want of memory.
+pub fn write_behind(out: &mut Vec<u8>, prefix: &[u8], run: &Run) -> Result<(), AllocError>
+    requires { IsWritable run.now }
+    ensures { OnOk result (out.new.items ≡ out.old.items ++ ended_lines (map (λ line. prefix.now ++ line) (run_lines run.now))) }
+{
+    out.extend_from_slice(prefix)?;
+    out.extend_from_slice(b"run ")?;
+    write_count(out, run.gaps().len())?;
+    out.extend_from_slice(b"\n")?;
+    write_gaps(out, prefix, run.gaps())?;
     Ok(())
 }
 
@@ -122,9 +161,6 @@ pub fn write_run(alloc: Global, run: &Run) -> Result<Vec<u8>, AllocError>
     ensures { IfOk result (λ text. text.items ≡ run_text run.now) }
 {
     let mut out = Vec::new(alloc);
-    out.extend_from_slice(b"run ")?;
-    write_count(&mut out, run.gaps().len())?;
-    out.extend_from_slice(b"\n")?;
-    write_gaps(&mut out, run.gaps())?;
+    write_behind(&mut out, b"", run)?;
     Ok(out)
 }

@@ -15,7 +15,7 @@ report-requires-clause-names g c = named_apart (map (λ a. arc_value a) c.deref.
 
 pub returns-in-Ok-clause-tellable : goal.returns-in-Ok-clause-tellable
 returns-in-Ok-clause-tellable g c =
-    says_cause_alone (rules_of (log_task (form_of (said_command c.args.request.now.command)) (map (λ a. arc_value a) c.deref.result.now) c.args.request.now.options.jumps)) _ _ c.report.result c.report.ensures
+    says_cause_alone (rules_of (log_task (form_of (said_command c.args.request.now.command)) (map (λ a. arc_value a) c.deref.result.now) c.args.request.now.options.jumps c.args.request.now.options.runs)) _ _ c.report.result c.report.ensures
 
 pub returns-in-Ok-clause-report : goal.returns-in-Ok-clause-report
 returns-in-Ok-clause-report g c =

@@ -1,0 +1,5 @@
+pub mod Entries
+pub mod Lasts
+pub mod Marks
+pub mod Walks
+pub mod Alarms
