@@ -1,5 +1,5 @@
 -- The beginning of the walk, as the code has it: from the entry behind an alarm.
-use Rattle.std.proofs.Common.{◌≡◌, ℕ, suc, ◌+◌, ◌<◌, true, false, List, [], ◌∷◌, append-nil, get_or, length, take, Option, Some, refl, sym, ◌∙◌, ap, subst, arith}
+use Rattle.std.proofs.Common.{◌≡◌, ℕ, suc, ◌+◌, ◌<◌, true, List, [], ◌∷◌, append-nil, get_or, length, take, Some, sym, ◌∙◌, ap, subst, arith}
 use Rattle.std.specs.Prelude.{All, reverse, slice_get, IsTrue}
 use Rattle.std.proofs.lemmas.List.{get_or-map, length-map, reverse-append}
 use Rattle.std.proofs.lemmas.List.Elements.{All-append, All-cons, All-get_or, All-head, All-nil, All-tail}
@@ -8,7 +8,7 @@ use Rattle.gap_keys.specs.Views.{ItemView, AreItemsWide, items_of, state_view, s
 use Rattle.gap_keys.specs.declared.outcomes.Outcome as code
 use Rattle.live_session.specs.Entries.{entry_of}
 use Rattle.poly_specs.specs.Fractions.{Fraction}
-use Rattle.poly_specs.specs.Rows.{Row, HasPoint}
+use Rattle.poly_specs.specs.Rows.{HasPoint}
 use Rattle.poly_specs.specs.Systems.{System}
 use Rattle.replay_specs.specs.RunTexts.{IsWritableGap}
 use Rattle.run_specs.proofs.AimLemmas.{alarm_visit}
@@ -20,7 +20,7 @@ use Rattle.run_specs.specs.Aims.{to_alarm}
 use Rattle.run_specs.specs.Automaton.{Automaton, width}
 use Rattle.run_specs.specs.Logs.{IsLog}
 use Rattle.run_specs.specs.HistoryLogs.{log_of}
-use Rattle.run_specs.specs.Keys.{State, Key, no_state}
+use Rattle.run_specs.specs.Keys.{Key, no_state}
 use Rattle.run_specs.specs.Outcomes.{Item, Next}
 use Rattle.run_specs.specs.Runs.{GapRun, Run}
 use Rattle.run_specs.specs.SessionHistories.{Entry, SessionHistory, IsHistory, states, opening_states, some_marked, verdict_at}
@@ -28,7 +28,7 @@ use Rattle.run_specs.specs.StateHistories.{states_at, state_at}
 use Rattle.run_specs.specs.declared.Verdict.TheVariants.{Alarm}
 use Rattle.alarm_run.proofs.EntryLemmas.{leaving}
 use Rattle.alarm_run.proofs.FirstLemmas.{begin_place, begin_walked, begin_passes}
-use Rattle.alarm_run.proofs.MarkLemmas.{IsAlarmEntry, alarm_entry, mark_at}
+use Rattle.alarm_run.proofs.MarkLemmas.{IsAlarmEntry, alarm_entry}
 use Rattle.alarm_run.proofs.StepLemmas.{some_is, next_is}
 use Rattle.alarm_run.specs.Alarms.{IsAlarmRun, AlarmRunPasses}
 use Rattle.alarm_run.specs.Lasts.{ArePickedLast, LastPasses}

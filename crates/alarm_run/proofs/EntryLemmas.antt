@@ -1,9 +1,9 @@
 -- An entry that leaves states: its key, its items and their histories.
-use Rattle.std.proofs.Common.{◌≡◌, ℕ, zero, suc, ◌<◌, ◌≤◌, List, [], ◌∷◌, ◌++◌, append_assoc, append-nil, length, take, Option, Some, None, refl, sym, ◌∙◌, ap, subst, arith}
+use Rattle.std.proofs.Common.{◌≡◌, ℕ, zero, suc, ◌<◌, List, [], ◌∷◌, ◌++◌, append_assoc, append-nil, length, take, Option, Some, refl, sym, ap, subst, arith}
 use Rattle.std.specs.Prelude.{All, slice_get}
 use Rattle.std.proofs.lemmas.List.Elements.{All-head, All-tail}
 use Rattle.poly_specs.specs.Fractions.{Fraction, IsFraction, zero_fraction}
-use Rattle.run_specs.proofs.HistoryLogLemmas.{HasLog, history_has_log}
+use Rattle.run_specs.proofs.HistoryLogLemmas.{history_has_log}
 use Rattle.run_specs.proofs.RunEndLemmas.{IsKeyOf, key_of, last_from-append}
 use Rattle.run_specs.proofs.SessionLemmas.{last_from}
 use Rattle.run_specs.specs.Automaton.{Automaton, width}
@@ -12,9 +12,9 @@ use Rattle.run_specs.specs.HistoryLogs.{log_of}
 use Rattle.run_specs.specs.Keys.{State, Key, IsKey}
 use Rattle.run_specs.specs.Logs.{Sample, IsSample}
 use Rattle.run_specs.specs.Outcomes.{Item, Outcome, Next, Passed, AreExact, IsExact}
-use Rattle.run_specs.specs.SessionHistories.{Entry, SessionHistory, IsEntry, AreLinked, IsHistory, states, states_left, opening_states, belief_after}
+use Rattle.run_specs.specs.SessionHistories.{Entry, SessionHistory, AreLinked, IsHistory, states, states_left, opening_states, belief_after}
 use Rattle.run_specs.specs.Sessions.{AreEntriesOf}
-use Rattle.run_specs.specs.StateHistories.{opening_histories, item_histories, histories_left, histories_after, states_at, histories_at}
+use Rattle.run_specs.specs.StateHistories.{opening_histories, item_histories, histories_after, states_at, histories_at}
 use Rattle.alarm_run.specs.Entries.{key_at, HasItems}
 
 -- the entry's key, for these states before it

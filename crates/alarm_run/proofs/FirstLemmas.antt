@@ -1,6 +1,6 @@
 -- Where the walk begins: in the first run's state, at its last values.
-use Rattle.std.proofs.Common.{◌≡◌, ◌⊎◌, inl, inr, ℕ, zero, suc, ◌+◌, ◌-◌, ◌<◌, ◌≤◌, false, List, [], ◌∷◌, ◌++◌, append-nil, get_or, length, length-append, map, take, take_all, drop, drop_of_length-le, Option, refl, sym, ◌∙◌, ap, subst, arith, ℤ, pos, ◌<ℤ◌}
-use Rattle.std.specs.Prelude.{All, IsSomeAnd, IsTrue}
+use Rattle.std.proofs.Common.{◌≡◌, inl, inr, ℕ, suc, ◌<◌, false, List, [], ◌∷◌, ◌++◌, append-nil, get_or, length, map, take, take_all, drop_of_length-le, refl, sym, ◌∙◌, ap, subst, arith}
+use Rattle.std.specs.Prelude.{IsSomeAnd, IsTrue}
 use Rattle.std.specs.List.{AllZip, AllByRecursion}
 use Rattle.std.proofs.lemmas.Bool.{cases_lt}
 use Rattle.std.proofs.lemmas.List.{length-map}
@@ -8,7 +8,7 @@ use Rattle.std.proofs.lemmas.List.Elements.{recursion_from_All, All-nil}
 use Rattle.gap_runs.proofs.AgreePicks.{all_fractions, picks_agree, zip_from}
 use Rattle.gap_runs.proofs.InsideLemmas.{same_common, inside_same}
 use Rattle.gap_runs.proofs.LicencePicks.{leaving_pass}
-use Rattle.gap_runs.specs.Befores.{common_point, LeavingPasses}
+use Rattle.gap_runs.specs.Befores.{common_point}
 use Rattle.poly_specs.specs.Bits.{SomePasses}
 use Rattle.poly_specs.specs.Elimination.{formed_each, columns_down}
 use Rattle.poly_specs.specs.Fractions.{Fraction, IsFraction, SameFraction, fractions, difference, zero_fraction}
@@ -27,11 +27,11 @@ use Rattle.run_specs.proofs.PassesLemmas.{same_in}
 use Rattle.run_specs.proofs.PickedLemmas.{AllFractions, length-fractions}
 use Rattle.run_specs.proofs.StateLemmas.{first_run_state, marked_meet}
 use Rattle.run_specs.specs.Aims.{to_alarm}
-use Rattle.run_specs.specs.Automaton.{Automaton, width, location_at}
+use Rattle.run_specs.specs.Automaton.{Automaton, width}
 use Rattle.run_specs.specs.FirstRun.{last_values}
-use Rattle.run_specs.specs.Histories.{History, history_of}
+use Rattle.run_specs.specs.Histories.{history_of}
 use Rattle.run_specs.specs.HistoryLogs.{log_of}
-use Rattle.run_specs.specs.Keys.{State, no_state}
+use Rattle.run_specs.specs.Keys.{no_state}
 use Rattle.run_specs.specs.Logs.{Sample}
 use Rattle.run_specs.specs.Outcomes.{Item}
 use Rattle.run_specs.specs.Passes.{PassesAlong, LogPasses, history_rows, history_stages}
@@ -39,7 +39,7 @@ use Rattle.run_specs.specs.PlainHistories.{AllReached}
 use Rattle.run_specs.specs.RunPasses.{last_picking, pickings}
 use Rattle.run_specs.specs.Runs.{GapRun, Run, path_of}
 use Rattle.run_specs.specs.SessionHistories.{SessionHistory, IsHistory, states, has_passed}
-use Rattle.run_specs.specs.Stages.{Stage, SomeReachedPasses, gap_rows, gap_stages, gap_start, gaps_rows, gaps_stages, path_rows, path_stages, rows_after, sample_stage, stage_numbers}
+use Rattle.run_specs.specs.Stages.{Stage, SomeReachedPasses, gap_rows, gap_stages, gap_start, gaps_rows, gaps_stages, path_rows, path_stages, rows_after, sample_stage}
 use Rattle.run_specs.specs.StateHistories.{states_at, state_at, history_at, IsOfFirstState}
 use Rattle.run_specs.specs.Runs.{end_loc}
 use Rattle.sample_succ.proofs.PlainLemmas.{test_pass}
@@ -48,7 +48,7 @@ use Rattle.alarm_run.proofs.GapLemmas.{passes_first, reached_more, reached_parts
 use Rattle.alarm_run.proofs.RunAt.{are_plain, init, is_log, log, long, opening, plain, plain_rows, plain_state, runs, start_is}
 use Rattle.alarm_run.specs.Lasts.{ArePickedLast, LastPasses}
 use Rattle.alarm_run.specs.Marks.{IsMarkedAt, IsFirstMarked}
-use Rattle.alarm_run.specs.Walks.{WalkValue, IsAlarmed, AlarmedPasses, IsPlace, IsWalked, IsWalkedBack, run_to}
+use Rattle.alarm_run.specs.Walks.{WalkValue, IsAlarmed, AlarmedPasses, IsPlace, IsWalked, run_to}
 
 -- ---- the test of the last stage
 
@@ -196,6 +196,10 @@ module _ (h : SessionHistory) (is : IsHistory h) (i : ℕ) (hi : i < length h.ga
     pub begin_passes : LastPasses (record { width = width a; rows = (state_at h n number).rows }) → AlarmedPasses h n
     begin_passes p = elim (leaving_pass (width a) 0 (state_at h n number).rows rows g.den [] g.last.at_end [] last.1.positive thin refl last.1.sized tt tt pick_picked p) [
       | inl formed ↦ inl (formed_pass (subst (λ k. SomePasses (formed_each (columns_down 0 k) rows)) (omega arith) formed))
-      | inr picking ↦ inr (run, first, inl (subst (λ o. IsSomeAnd o (λ rows. (q : Picking) × In q (pickings a (log h is n run hi first) run rows []) × PickPasses q)) (sym (start_is h is n run hi first))
-          (pick, inl refl, subst PickPasses (sym pick_is) picking)))
+      | inr picking ↦ inr (
+        run,
+        first,
+        inl (subst (λ o. IsSomeAnd o (λ rows. (q : Picking) × In q (pickings a (log h is n run hi first) run rows []) × PickPasses q)) (sym (start_is h is n run hi first))
+            (pick, inl refl, subst PickPasses (sym pick_is) picking)),
+      )
     ]

@@ -1,5 +1,5 @@
 -- One gap of a run: the run before it, the gaps after it, and its pickings.
-use Rattle.std.proofs.Common.{◌≡◌, inl, inr, ℕ, zero, suc, ◌<◌, ◌≤◌, List, [], ◌∷◌, ◌++◌, length, map, take, drop, refl, sym, ◌∙◌, ap, subst, arith, pos, ◌<ℤ◌}
+use Rattle.std.proofs.Common.{◌≡◌, inl, inr, ℕ, zero, suc, ◌<◌, List, [], ◌∷◌, ◌++◌, length, map, take, drop, refl, sym, ◌∙◌, ap, subst, arith, pos, ◌<ℤ◌}
 use Rattle.poly_specs.proofs.InclusionLemmas.{in_left, in_right}
 use Rattle.poly_specs.specs.Fractions.{Fraction, difference}
 use Rattle.poly_specs.specs.Lists.{In}

@@ -1,15 +1,14 @@
 -- The first marked item, and the entry behind an alarm.
-use Rattle.std.proofs.Common.{◌≡◌, ◌⊎◌, inl, inr, ℕ, zero, suc, ◌+◌, ◌<◌, ◌≤◌, Bool, true, false, ◌||◌, cond, List, [], ◌∷◌, get_or, length, take, Option, Some, None, refl, sym, ◌∙◌, ap, subst, arith}
-use Rattle.std.specs.Prelude.{if◌then◌else◌, slice_get, IsTrue}
+use Rattle.std.proofs.Common.{◌≡◌, inl, inr, ℕ, zero, suc, ◌+◌, ◌<◌, ◌≤◌, Bool, true, false, ◌||◌, List, [], ◌∷◌, get_or, length, take, Option, Some, None, refl, sym, ◌∙◌, ap, subst, arith}
+use Rattle.std.specs.Prelude.{if◌then◌else◌, slice_get}
 use Rattle.std.proofs.lemmas.Bool.{cases_lt}
 use Rattle.std.proofs.lemmas.List.{get_or-map, length-map}
 use Rattle.gap_keys.specs.Views.{ItemView, items_of}
 use Rattle.run_specs.specs.declared.Verdict.{Verdict}
-use Rattle.run_specs.specs.declared.Verdict.TheVariants.{Alarm, Safe, Impossible, Overflow}
+use Rattle.run_specs.specs.declared.Verdict.TheVariants.{Alarm, Safe, Overflow}
 use Rattle.run_specs.specs.Keys.{State, no_state}
 use Rattle.run_specs.specs.Outcomes.{Item, Outcome, Next, Passed}
 use Rattle.run_specs.specs.SessionHistories.{Entry, SessionHistory, states, states_left, opening_states, belief_after, some_marked, verdict_of, verdict_after, verdict_at, has_passed}
-use Rattle.run_specs.specs.StateHistories.{states_at}
 use Rattle.alarm_run.specs.Marks.{IsMarkedAt, IsFirstMarked}
 
 -- ---- marks

@@ -1,33 +1,28 @@
 -- A first run at one of its gaps: the state there, and its plain rows.
-use Rattle.std.proofs.Common.{◌≡◌, inl, inr, ℕ, zero, suc, ◌<◌, ◌≤◌, IfSome, List, [], ◌∷◌, ◌++◌, length, map, take, take-take, Option, Some, None, refl, sym, ◌∙◌, ap, ap₂, subst, arith, pos, ◌<ℤ◌}
-use Rattle.std.specs.Prelude.{All, IsSomeAnd}
+use Rattle.std.proofs.Common.{◌≡◌, ℕ, ◌<◌, ◌≤◌, IfSome, List, ◌++◌, length, map, take, take-take, Option, Some, None, refl, sym, subst, arith}
+use Rattle.std.specs.Prelude.{IsSomeAnd}
 use Rattle.std.proofs.lemmas.List.{length-take-le}
-use Rattle.poly_specs.specs.Fractions.{Fraction, fractions, zero_fraction}
-use Rattle.poly_specs.specs.Rows.{Point, Row, AllHold, AllWide}
+use Rattle.poly_specs.specs.Fractions.{zero_fraction}
+use Rattle.poly_specs.specs.Rows.{Row, AllHold, AllWide}
 use Rattle.run_parts.proofs.RestParts.{AreSamples}
 use Rattle.run_specs.proofs.EndLemmas.{wide_both}
 use Rattle.run_specs.proofs.FirstRunExists.{all_in, cells_are}
 use Rattle.run_specs.proofs.HistoryLogLemmas.{history_has_log, log_length, first_gaps, log-first, history-first}
 use Rattle.run_specs.proofs.OverflowLemmas.{opening_rows_are, starts_within}
 use Rattle.run_specs.proofs.PlainStates.{states_plain}
-use Rattle.run_specs.proofs.RunEndLemmas.{IsAt, all_same, extended, history-extended, starts_inside}
+use Rattle.run_specs.proofs.RunEndLemmas.{IsAt, all_same, starts_inside}
 use Rattle.run_specs.proofs.StageLemmas.{holds_both}
 use Rattle.run_specs.proofs.StateLemmas.{states_marks}
 use Rattle.run_specs.proofs.StageWidths.{location_is}
-use Rattle.run_specs.specs.Aims.{to_alarm}
 use Rattle.run_specs.specs.Automaton.{Automaton, width, location_at}
-use Rattle.run_specs.specs.Histories.{History, history_of}
+use Rattle.run_specs.specs.Histories.{history_of}
 use Rattle.run_specs.specs.HistoryLogs.{log_of}
-use Rattle.run_specs.specs.Keys.{State}
 use Rattle.run_specs.specs.Logs.{Sample, IsSample, IsLog}
-use Rattle.run_specs.specs.Passes.{AllFit, history_stages, history_rows}
-use Rattle.run_specs.specs.PlainHistories.{AllReached, HasPlainRows, IsPlainState}
-use Rattle.run_specs.specs.Runs.{GapRun, Place, Run, Follows, IsRun, path_of, start_point}
+use Rattle.run_specs.specs.PlainHistories.{HasPlainRows, IsPlainState}
+use Rattle.run_specs.specs.Runs.{GapRun, Run, IsRun, path_of, start_point}
 use Rattle.run_specs.specs.SessionHistories.{SessionHistory, IsHistory}
 use Rattle.run_specs.specs.Stages.{rows_after, opening_stage}
-use Rattle.run_specs.specs.StateHistories.{states_at, state_at, history_at, EndsRun, place_after, run_end}
-use Rattle.run_specs.specs.WellFormed.{IsWellFormed}
-use Rattle.sample_succ.specs.Plain.{IsPlain}
+use Rattle.run_specs.specs.StateHistories.{states_at, state_at, history_at, run_end}
 use Rattle.gap_runs.specs.Gaps.{ArePlain}
 use Rattle.alarm_run.proofs.GapLemmas.{IsGapAt, follows_to, gap_at, holds_before, place_positive, rows_before, rows_wide}
 use Rattle.alarm_run.specs.Walks.{IsAlarmed, run_to}

@@ -1,5 +1,5 @@
 -- A step of the walk, as the code takes it: from an entry and its items.
-use Rattle.std.proofs.Common.{◌≡◌, inl, inr, ℕ, zero, suc, ◌+◌, ◌<◌, ◌≤◌, List, [], ◌∷◌, ◌++◌, get_or, length, map, take, Option, Some, refl, sym, ◌∙◌, ap, subst, arith}
+use Rattle.std.proofs.Common.{◌≡◌, inl, inr, ℕ, zero, suc, ◌+◌, ◌<◌, ◌≤◌, List, [], ◌∷◌, ◌++◌, get_or, length, Option, Some, refl, sym, ◌∙◌, ap, subst, arith}
 use Rattle.std.specs.Prelude.{All, slice_get}
 use Rattle.std.proofs.lemmas.List.{get_or-map, length-map}
 use Rattle.gap_keys.specs.Answering.{outcome_of}
@@ -8,21 +8,19 @@ use Rattle.gap_keys.specs.declared.outcomes.Outcome as code
 use Rattle.gap_runs.specs.Befores.{common_point}
 use Rattle.gap_runs.specs.Gaps.{GapValue, IsGapBack, GapBackPasses}
 use Rattle.live_session.specs.Entries.{entry_of}
-use Rattle.poly_specs.proofs.InclusionLemmas.{in_left}
 use Rattle.poly_specs.specs.Fractions.{Fraction, IsFraction}
 use Rattle.poly_specs.specs.Lists.{In}
 use Rattle.poly_specs.specs.Rows.{AllHold}
 use Rattle.replay_specs.specs.RunTexts.{IsWritableGap}
 use Rattle.run_specs.specs.Automaton.{width}
-use Rattle.run_specs.specs.Histories.{History}
-use Rattle.run_specs.specs.Keys.{State, Key, no_state, parent_at}
-use Rattle.run_specs.specs.Outcomes.{Item, Outcome, Next, Passed, MayTake, IsEnd}
+use Rattle.run_specs.specs.Keys.{Key, no_state, parent_at}
+use Rattle.run_specs.specs.Outcomes.{Item, Next, MayTake, IsEnd}
 use Rattle.run_specs.specs.Runs.{GapRun, Run}
-use Rattle.run_specs.specs.SessionHistories.{Entry, SessionHistory, IsHistory, states}
-use Rattle.run_specs.specs.StateHistories.{no_history, followed, item_histories, states_at, state_at, history_at, histories_at}
+use Rattle.run_specs.specs.SessionHistories.{Entry, SessionHistory, IsHistory}
+use Rattle.run_specs.specs.StateHistories.{no_history, followed, state_at, history_at, histories_at}
 use Rattle.alarm_run.proofs.EntryLemmas.{IsLeaving, leaving}
-use Rattle.alarm_run.proofs.WalkLemmas.{next, step_may, step_reached, step_place, step_walked, step_passes}
-use Rattle.alarm_run.specs.Entries.{key_at, HasItems}
+use Rattle.alarm_run.proofs.WalkLemmas.{step_may, step_reached, step_place, step_walked, step_passes}
+use Rattle.alarm_run.specs.Entries.{key_at}
 use Rattle.alarm_run.specs.Walks.{WalkValue, IsAlarmed, AlarmedPasses, IsPlace, IsWalked, IsWalkedBack}
 
 pub some_is : {A : Type 0} (x y : A) → Some x ≡ Some y → x ≡ y

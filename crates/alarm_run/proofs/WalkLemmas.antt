@@ -1,35 +1,34 @@
 -- One step of the walk: over the gap that a first run has there.
-use Rattle.std.proofs.Common.{◌≡◌, ◌⊎◌, inl, inr, ℕ, zero, suc, ◌<◌, ◌≤◌, List, [], ◌∷◌, ◌++◌, length, length-append, map, take, drop, Option, refl, sym, ◌∙◌, ap, ap₂, subst, arith, ℤ, pos, ◌<ℤ◌}
+use Rattle.std.proofs.Common.{◌≡◌, inl, inr, ℕ, suc, ◌<◌, ◌≤◌, List, [], ◌∷◌, ◌++◌, length, length-append, map, take, drop, Option, refl, sym, ◌∙◌, ap, ap₂, subst, arith, ℤ, pos, ◌<ℤ◌}
 use Rattle.std.specs.Prelude.{All, IsSomeAnd, reverse}
 use Rattle.std.specs.List.{AllZip}
 use Rattle.std.proofs.lemmas.Int.{ints}
-use Rattle.std.proofs.lemmas.List.{length-map, length-take-le, map-append, reverse-append, take-append-drop}
+use Rattle.std.proofs.lemmas.List.{length-map, length-take-le, reverse-append, take-append-drop}
 use Rattle.std.proofs.lemmas.List.Elements.{recursion_from_All, All-append, All-cons, All-nil}
 use Rattle.frac128.proofs.CommonLemmas.{common_positive}
 use Rattle.gap_runs.proofs.AgreePicks.{zip_from}
 use Rattle.gap_runs.specs.Befores.{common_point}
-use Rattle.gap_runs.specs.Gaps.{GapValue, ArePlain, IsPickedGap, IsGapBack, GapBackPasses, pickings_of}
+use Rattle.gap_runs.specs.Gaps.{GapValue, IsPickedGap, IsGapBack, GapBackPasses}
 use Rattle.poly_specs.proofs.LowestLemmas.{same-lowest}
-use Rattle.poly_specs.specs.Bits.{SomePasses}
-use Rattle.poly_specs.specs.Denominators.{common_den, common_nums, common_numbers, num_over}
+use Rattle.poly_specs.specs.Denominators.{common_den, num_over}
 use Rattle.poly_specs.specs.Fractions.{Fraction, IsFraction, SameFraction, fractions, difference, zero_fraction}
 use Rattle.poly_specs.specs.Lists.{In}
-use Rattle.poly_specs.specs.Pickings.{Picking, ArePicked, PickPasses}
-use Rattle.poly_specs.specs.Rows.{Point, Row, over, AllHold, SamePoint}
+use Rattle.poly_specs.specs.Pickings.{Picking, PickPasses}
+use Rattle.poly_specs.specs.Rows.{Row, over, AllHold, SamePoint}
 use Rattle.replay_specs.specs.RunTexts.{IsWritableGap}
 use Rattle.run_parts.proofs.Choices.{are_all, point_agree, zip_through}
 use Rattle.run_parts.proofs.FirstGaps.{gap_common}
 use Rattle.run_parts.proofs.RunParts.{first_run_picked}
 use Rattle.run_parts.proofs.WideGaps.{run_gaps_wide}
-use Rattle.run_specs.proofs.AimLemmas.{IsLast, last_of, some_gap, zip_back}
+use Rattle.run_specs.proofs.AimLemmas.{last_of, some_gap, zip_back}
 use Rattle.run_specs.proofs.MixRuns.{length-same_point}
 use Rattle.run_specs.proofs.OverflowLemmas.{IsGapOf, key_stages}
 use Rattle.run_specs.proofs.PassesLemmas.{LogPasses-longer}
 use Rattle.run_specs.proofs.PickedLemmas.{length-fractions}
-use Rattle.run_specs.proofs.RunEndLemmas.{IsKeyOf, extended, history-extended, other_duration}
+use Rattle.run_specs.proofs.RunEndLemmas.{IsKeyOf, history-extended, other_duration}
 use Rattle.run_specs.proofs.SessionLemmas.{last_from}
 use Rattle.run_specs.specs.Aims.{to_alarm}
-use Rattle.run_specs.specs.Automaton.{Automaton, width, location_at}
+use Rattle.run_specs.specs.Automaton.{Automaton, width}
 use Rattle.run_specs.specs.FirstRun.{last_values}
 use Rattle.run_specs.specs.Histories.{History, history_of}
 use Rattle.run_specs.specs.HistoryLogs.{log_of}
@@ -37,16 +36,16 @@ use Rattle.run_specs.specs.Keys.{Key, State, parent_at}
 use Rattle.run_specs.specs.Logs.{Sample}
 use Rattle.run_specs.specs.Outcomes.{Item, MayTake, IsEnd, IsItem}
 use Rattle.run_specs.specs.Passes.{AllFit, PassesAlong, LogPasses, history_stages}
-use Rattle.run_specs.specs.RunPasses.{gap_numbers, pickings, RunPasses}
+use Rattle.run_specs.specs.RunPasses.{pickings}
 use Rattle.run_specs.specs.Runs.{GapRun, Place, Run, IsGapRun, path_of, start_point, end_point}
 use Rattle.run_specs.specs.SessionHistories.{SessionHistory, IsHistory}
-use Rattle.run_specs.specs.Stages.{SomeReachedPasses, gap_stages, gaps_stages}
-use Rattle.run_specs.specs.StateHistories.{followed, states_at, state_at, history_at, place_after, run_end}
+use Rattle.run_specs.specs.Stages.{SomeReachedPasses, gap_stages}
+use Rattle.run_specs.specs.StateHistories.{followed, states_at, state_at, history_at}
 use Rattle.alarm_run.proofs.EntryLemmas.{IsLeaving}
 use Rattle.alarm_run.proofs.GapLemmas.{IsGapAt, ends_at, gap_at, gap_passes, last_loc}
 use Rattle.alarm_run.proofs.RunAt.{are_plain, gap_starts, init, is_log, log, long, opening, plain, plain_rows, plain_state, run_before, runs, same_loc, start_is, taken}
 use Rattle.alarm_run.specs.Entries.{key_at}
-use Rattle.alarm_run.specs.Walks.{WalkValue, IsAlarmed, AlarmedPasses, IsPlace, IsWalked, IsWalkedBack, run_to}
+use Rattle.alarm_run.specs.Walks.{WalkValue, IsAlarmed, AlarmedPasses, IsPlace, IsWalked, run_to}
 
 -- ---- lists
 
@@ -244,7 +243,11 @@ module _ (h : SessionHistory) (is : IsHistory h) (i : ℕ) (gap : Fraction) (see
     pub step_passes : GapBackPasses key y.parent y.path w.last → AlarmedPasses h n
     step_passes p = elim (p rows g (are_plain h is n run few first i le y.parent below along) picked_gap) [
       | inl stages ↦ inl (stages_pass stages)
-      | inr (inl picking) ↦ inr (run, first, inl (subst (λ o. IsSomeAnd o (λ rows. (q : Picking) × In q (pickings a (log h is n run few first) run rows []) × PickPasses q)) (sym (start_is h is n run few first))
-          (picking.0, inr (at.picks (opening h is n run few first) picking.0 picking.1), picking.2)))
+      | inr (inl picking) ↦ inr (
+        run,
+        first,
+        inl (subst (λ o. IsSomeAnd o (λ rows. (q : Picking) × In q (pickings a (log h is n run few first) run rows []) × PickPasses q)) (sym (start_is h is n run few first))
+            (picking.0, inr (at.picks (opening h is n run few first) picking.0 picking.1), picking.2)),
+      )
       | inr (inr numbers) ↦ inr (run, first, inr (g, at.has, numbers))
     ]

@@ -1,12 +1,10 @@
 -- The entries of a history that leave states.
-use Rattle.std.specs.Prelude.{◌≡◌, ℕ, suc, List, ◌∷◌, ◌++◌, Option, Some, slice_get, take}
+use Rattle.std.specs.Prelude.{◌≡◌, ℕ, List, Option, Some, slice_get}
 use Rattle.poly_specs.specs.Fractions.{Fraction}
-use Rattle.run_specs.specs.HistoryLogs.{log_of}
-use Rattle.run_specs.specs.Keys.{Key, IsKey}
-use Rattle.run_specs.specs.Logs.{Sample}
-use Rattle.run_specs.specs.Outcomes.{Item, Next, AreExact}
-use Rattle.run_specs.specs.SessionHistories.{Entry, SessionHistory, states}
-use Rattle.run_specs.specs.StateHistories.{states_at, histories_at, item_histories}
+use Rattle.run_specs.specs.Keys.{Key}
+use Rattle.run_specs.specs.Outcomes.{Item, Next}
+use Rattle.run_specs.specs.SessionHistories.{SessionHistory}
+use Rattle.run_specs.specs.StateHistories.{states_at}
 
 -- the key of gap number i, if it lasts so long and this is seen after it
 abbrev pub key_at : SessionHistory → ℕ → Fraction → List (Option Fraction) → Key

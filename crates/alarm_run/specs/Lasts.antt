@@ -1,11 +1,9 @@
 -- The last values of a first run: those that are picked from the system of its state.
-use Rattle.std.specs.Prelude.{◌⊎◌, ℕ, [], List, All}
-use Rattle.poly_specs.specs.Bits.{SomePasses}
-use Rattle.poly_specs.specs.Elimination.{formed_each, columns_down}
+use Rattle.std.specs.Prelude.{[], List, All}
 use Rattle.poly_specs.specs.Fractions.{Fraction}
 use Rattle.poly_specs.specs.LowestTerms.{IsLowest}
 use Rattle.poly_specs.specs.Pickings.{ArePickedNumbers}
-use Rattle.poly_specs.specs.Rows.{Point, over}
+use Rattle.poly_specs.specs.Rows.{Point}
 use Rattle.poly_specs.specs.Systems.{System}
 use Rattle.gap_runs.specs.Befores.{common_point, LeavingPasses}
 

@@ -1,5 +1,5 @@
 -- Going back from the end of a first run to its start, gap by gap.
-use Rattle.std.specs.Prelude.{◌≡◌, ℕ, ◌<◌, List, All, drop, length, reverse, slice_index_or, take, IsTrue}
+use Rattle.std.specs.Prelude.{◌≡◌, ℕ, ◌<◌, List, All, drop, length, reverse, take}
 use Rattle.std.specs.List.{AllZip}
 use Rattle.poly_specs.specs.Fractions.{Fraction, IsFraction, SameFraction}
 use Rattle.poly_specs.specs.Rows.{AllHold}

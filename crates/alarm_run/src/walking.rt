@@ -71,7 +71,11 @@ fn step_back(alloc: Global, history: &History<'_>, i: usize, walk: Walk) -> Resu
     ensures walked { IfOk result (λ w. (n : ℕ) → i < n → n ≤ length history.now.gaps → IsWalkedBack history.now n (i + 1) walk → IsWalkedBack history.now n i w) }
     ensures passes { result ≡ Err RowFault.Passes → (n : ℕ) (run : RunValue) → i < n → n ≤ length history.now.gaps → IsAlarmed history.now n run → IsWalked history.now (i + 1) run walk → AlarmedPasses history.now n }
 {
-    let Walk { number, last, mut gaps } = walk;
+    let Walk {
+        number,
+        last,
+        mut gaps,
+    } = walk;
     let entry = entry_at(history, i);
     let item = item_at(items_in(entry), number);
     let GapBack { gap, start } = gap_back(

@@ -39,7 +39,15 @@ pub fn check_log<L: Source, O: Sink>(
         (record { log = L.told log.new; log_faults = L.faults log.new; out = O.taken out.new; out_faults = O.faults out.new })
         result }
 {
-    report_log(alloc, LogForm::Check, models, options.jumps, options.runs, log, out)
+    report_log(
+        alloc,
+        LogForm::Check,
+        models,
+        options.jumps,
+        options.runs,
+        log,
+        out,
+    )
 }
 
 /// Watches a log of many sessions, each of one of some automata, and writes its report, with the runs that the options ask for.
@@ -60,7 +68,15 @@ pub fn watch_logs<L: Source, O: Sink>(
         (record { log = L.told log.new; log_faults = L.faults log.new; out = O.taken out.new; out_faults = O.faults out.new })
         result }
 {
-    report_log(alloc, LogForm::Watch, models, options.jumps, options.runs, log, out)
+    report_log(
+        alloc,
+        LogForm::Watch,
+        models,
+        options.jumps,
+        options.runs,
+        log,
+        out,
+    )
 }
 
 /// Reports the log of a command for some automata.

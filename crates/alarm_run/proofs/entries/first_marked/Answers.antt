@@ -1,4 +1,4 @@
-use Rattle.std.proofs.Common.{◌≡◌, ◌∙◌, true, false, ap, arith, length, sym}
+use Rattle.std.proofs.Common.{◌≡◌, ◌∙◌, true, false, ap, arith, sym}
 use Rattle.std.proofs.lemmas.List.{length-map}
 use Rattle.gap_keys.specs.Views.{ItemView, StateView}
 use Rattle.alarm_run.proofs.MarkLemmas.{contradicted, first_is, none_more}

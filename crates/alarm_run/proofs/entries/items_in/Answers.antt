@@ -1,5 +1,5 @@
 use Rattle.std.proofs.Common.{◌≡◌, ◌∙◌, List, sym, subst}
-use Rattle.gap_keys.specs.Answering.{IsAnswer, IsOutcomeWide}
+use Rattle.gap_keys.specs.Answering.{IsOutcomeWide}
 use Rattle.gap_keys.specs.Views.{ItemView, AreItemsWide}
 use Rattle.gap_keys.specs.declared.outcomes.Outcome.TheVariants.{Next}
 use Rattle.run_specs.specs.Automaton.{width}

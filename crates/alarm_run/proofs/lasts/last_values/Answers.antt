@@ -1,4 +1,4 @@
-use Rattle.std.proofs.Common.{◌≡◌, ◌∙◌, List, [], ap, refl, sym, subst}
+use Rattle.std.proofs.Common.{◌≡◌, ◌∙◌, List, [], ap, sym, subst}
 use Rattle.column_pick.specs.Picked.{numbers_of, IsPickedPoint}
 use Rattle.gap_runs.proofs.PartLemmas.{picked_numbers}
 use Rattle.poly_specs.specs.Fractions.{Fraction}

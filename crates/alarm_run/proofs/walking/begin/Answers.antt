@@ -1,4 +1,4 @@
-use Rattle.std.proofs.Common.{◌≡◌, ◌∙◌, [], Err, ap, rules, sym, subst}
+use Rattle.std.proofs.Common.{◌≡◌, ◌∙◌, [], Err, ap, rules}
 use Rattle.fm_eliminate.specs.declared.RowFault.TheVariants.{Passes}
 use Rattle.gap_keys.specs.Views.{StateView, ItemView, state_view, system_of}
 use Rattle.poly_specs.specs.Systems.{System}

@@ -1,4 +1,4 @@
-use Rattle.std.proofs.Common.{◌≡◌, ◌∙◌, Err, length, ap, rules, sym, subst}
+use Rattle.std.proofs.Common.{◌≡◌, Err, length, ap, rules, sym, subst}
 use Rattle.std.specs.Prelude.{All}
 use Rattle.fm_eliminate.specs.declared.RowFault.TheVariants.{Passes}
 use Rattle.gap_runs.specs.Befores.{common_point}

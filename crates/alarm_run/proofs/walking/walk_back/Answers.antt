@@ -1,4 +1,4 @@
-use Rattle.std.proofs.Common.{◌≡◌, ◌+◌, ◌-◌, ◌<◌, ℕ, Err, ap, arith, rules, sym, subst}
+use Rattle.std.proofs.Common.{◌≡◌, ◌+◌, ◌-◌, ◌<◌, ℕ, Err, ap, arith, rules, subst}
 use Rattle.fm_eliminate.specs.declared.RowFault.TheVariants.{Passes}
 use Rattle.alarm_run.specs.Walks.{IsPlace, IsWalked, IsWalkedBack}
 use Rattle.alarm_run.proofs.walking.walk_back.Goals as goal
