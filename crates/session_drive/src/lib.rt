@@ -3,8 +3,10 @@
 //! How the entry is found is a matter of the driver. `Stepping` makes each by a step over the gap.
 #![tactic(auto)]
 
+mod counts;
 mod driver;
 mod stepping;
 
+pub use counts::{Counts, DriveFault};
 pub use driver::Drive;
 pub use stepping::Stepping;
