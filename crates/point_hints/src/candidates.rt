@@ -1,6 +1,5 @@
 //! A point near where one seems to be, with exact numbers.
 
-use crate::dictionary::Numbers;
 use crate::equations::{Equation, NONE_SAID, Unknowns, say_unknowns, solve};
 use crate::search::Spot;
 use lin_row::{Point, Row};
@@ -32,7 +31,7 @@ pub fn point_near(
     let Some(count) = say_unknowns(&mut equations, &mut left) else {
         return Ok(None);
     };
-    let mut numbers = rounded(&spot.values, &left, spot.bits.wrapping_add(more));
+    let mut numbers = rounded(spot, &left, spot.bits.wrapping_add(more));
     match solve(equations.as_slice(), count, &mut numbers) {
         None => Ok(None),
         Some(()) => point_of(alloc, width, &numbers),
@@ -54,7 +53,7 @@ fn equation_of(row: &Row) -> Equation {
 }
 
 /// The values of these columns, rounded to so many bits behind the point.
-fn rounded(values: &Numbers, left: &[bool; 16], bits: u32) -> Unknowns {
+fn rounded(spot: &Spot, left: &[bool; 16], bits: u32) -> Unknowns {
     let mut numbers = [0; 16];
     let mut scale = 1.0;
     let mut denominator = 1i128;
@@ -66,9 +65,9 @@ fn rounded(values: &Numbers, left: &[bool; 16], bits: u32) -> Unknowns {
     }
     for column in 0..14 {
         if left[column] {
-            numbers[column] = i128::from(saturating_f64_to_i64(
-                (values[column + 1] * scale).round(),
-            ));
+            let value = saturating_f64_to_i64((spot.values[column + 1] * scale).round());
+            let start = spot.origin[column].wrapping_mul(denominator);
+            numbers[column] = start.wrapping_add(i128::from(value));
         }
     }
     numbers[DENOMINATOR] = denominator;

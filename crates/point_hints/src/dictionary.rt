@@ -7,9 +7,11 @@
 //! A point inside is wanted, where rounding does no harm: each slack is to be above 0 by a little.
 //! Slacks that are 0 at each point are let be 0.
 
+use crate::equations::Unknowns;
 use crate::floats::{largest, near};
 use lin_row::Row;
 use std::alloc::{AllocError, Global};
+use std::num::saturating_f64_to_i64;
 
 /// A constant, a number for each place from 1 on, and in the last place what the constant changes
 /// where the slacks are to be above 0 by a little.
@@ -41,6 +43,8 @@ pub struct Dictionary {
     pub lines: Vec<Line>,
     pub columns: Vec<Numbers>,
     pub tight: [usize; 16],
+    /// From where the columns are counted.
+    pub origin: Unknowns,
     costs: Numbers,
     apart: Vec<bool>,
 }
@@ -56,6 +60,7 @@ impl Dictionary {
             lines,
             columns: vec![in alloc; [0.0; 16]; 16]?,
             tight: [NO_ROW; 16],
+            origin: [0; 16],
             costs: [0.0; 16],
             apart: vec![in alloc; true; rows.len()]?,
         };
@@ -200,6 +205,42 @@ impl Dictionary {
         }
     }
 
+    /// Counts the columns from the integers nearest to where the slacks of the places are 0, and
+    /// computes the constants anew. The slacks of the places are small there, and so the floats exact,
+    /// which they are not where the constants went through large ones.
+    pub fn recentre(&mut self, rows: &[Row]) {
+        self.move_origin();
+        for apart in self.apart.as_mut_slice() {
+            *apart = true;
+        }
+        let mut slacks = [0.0; 16];
+        let mut taken = [0.0; 16];
+        for place in 1..LITTLE {
+            if let Some(row) = rows.get(self.tight[place]) {
+                slacks[place] = slack_at(row, &self.origin);
+                taken[place] = 1.0;
+            }
+        }
+        for line in self.lines.as_mut_slice() {
+            if let Some(row) = rows.get(line.row) {
+                let slack = slack_at(row, &self.origin);
+                renew(&mut line.numbers, slack, -1.0, &slacks, &taken);
+            }
+        }
+        for numbers in self.columns.as_mut_slice() {
+            renew(numbers, 0.0, 0.0, &slacks, &taken);
+        }
+    }
+
+    fn move_origin(&mut self) {
+        for column in 0..14 {
+            if let Some(numbers) = self.columns.get(column + 1) {
+                let number = saturating_f64_to_i64(numbers[0].round());
+                self.origin[column] = self.origin[column].wrapping_add(i128::from(number));
+            }
+        }
+    }
+
     /// Whether the slack of a row is to be above 0.
     pub fn is_apart(&self, row: usize) -> bool {
         *self.apart.get(row).unwrap_or(&true)
@@ -239,6 +280,36 @@ fn line_of(row: &Row, place: usize) -> Line {
         numbers,
         row: place,
     }
+}
+
+/// Computes a line's constant, and what a little changes in it, from the slacks at the origin: its
+/// own, and those of the places that slacks have taken.
+fn renew(numbers: &mut Numbers, slack: f64, little: f64, slacks: &Numbers, taken: &Numbers) {
+    let mut constant = slack;
+    let mut change = little;
+    for place in 1..LITTLE {
+        constant -= numbers[place] * slacks[place];
+        change += numbers[place] * taken[place];
+    }
+    numbers[0] = constant;
+    numbers[LITTLE] = change;
+}
+
+/// The slack of a row at the origin, where the largest of its coefficients is 1.
+fn slack_at(row: &Row, origin: &Unknowns) -> f64 {
+    near(sum_at(row, origin)) * (-1.0 / largest(row))
+}
+
+/// The sum of a row at the origin, if it does not pass 128 bits.
+fn sum_at(row: &Row, origin: &Unknowns) -> i128 {
+    let coef = row.coef();
+    let mut sum = row.cst();
+    for column in 0..coef.len().min(14) {
+        if origin[column] != 0 {
+            sum = sum.wrapping_add(coef[column].wrapping_mul(origin[column]));
+        }
+    }
+    sum
 }
 
 /// The line, solved for what has this place.

@@ -10,11 +10,13 @@ mod constants;
 mod dictionary;
 mod equations;
 mod floats;
+mod marks;
 mod ratios;
 mod search;
 mod showing;
 
 pub use constants::{exceeds, some_never_holds};
+pub use marks::likely_needed;
 pub use showing::show;
 
 /// What is shown of a system.

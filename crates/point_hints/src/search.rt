@@ -3,18 +3,19 @@
 //! What it finds is a hint alone.
 
 use crate::dictionary::{ALMOST_MET, ALMOST_ZERO, Dictionary, LITTLE, NO_ROW, Numbers};
+use crate::equations::Unknowns;
 use crate::floats::largest;
-use fm_eliminate::System;
 use lin_row::Row;
-use std::alloc::{AllocError, Global};
 
 /// The most turns of the search.
 const TURNS: usize = 300;
 
-/// A point: for each column, counted from 1, a number that may be rounded to so many bits behind the
-/// point, but for the equations that these rows are: their sums are 0 at each point.
+/// A point: for each column, counted from 1, a number from the origin, which may be rounded to so
+/// many bits behind the point, but for the equations that these rows are: their sums are 0 at each
+/// point.
 #[derive(Clone, Copy, Debug)]
 pub struct Spot {
+    pub origin: Unknowns,
     pub values: Numbers,
     pub bits: u32,
     pub equal: [usize; 16],
@@ -39,22 +40,21 @@ pub enum Found {
 }
 
 /// Searches a point.
-pub fn search(alloc: Global, system: &System) -> Result<Found, AllocError> {
-    let mut dictionary = Dictionary::of_rows(alloc, system.rows())?;
+pub fn search(dictionary: &mut Dictionary, rows: &[Row]) -> Found {
     for _ in 0..TURNS {
         let Some(line) = dictionary.worst() else {
-            return Ok(Found::Inside(spot_of(&dictionary)));
+            return Found::Inside(spot_of(dictionary));
         };
         if let Some(place) = dictionary.cheapest(line) {
             dictionary.pivot(line, place);
         } else {
-            let found = clash_of(&dictionary, line, system.rows());
-            if !dictionary.let_be_zero(line, system.rows()) {
-                return Ok(Found::Conflict(found));
+            let found = clash_of(dictionary, line, rows);
+            if !dictionary.let_be_zero(line, rows) {
+                return Found::Conflict(found);
             }
         }
     }
-    Ok(Found::Nothing)
+    Found::Nothing
 }
 
 /// The rows of a line without a number above 0.
@@ -96,6 +96,7 @@ fn spot_of(dictionary: &Dictionary) -> Spot {
         }
     }
     Spot {
+        origin: dictionary.origin,
         values,
         bits: bits_below(little),
         equal: equal_rows(dictionary),
@@ -103,7 +104,7 @@ fn spot_of(dictionary: &Dictionary) -> Spot {
 }
 
 /// By how much the slacks may be above 0, half of what is the most, if that is no more than this.
-fn little_of(dictionary: &Dictionary) -> f64 {
+pub fn little_of(dictionary: &Dictionary) -> f64 {
     let mut little = 64.0f64;
     for line in dictionary.lines.as_slice() {
         if line.numbers[0] > ALMOST_MET && line.numbers[LITTLE] < -ALMOST_ZERO {

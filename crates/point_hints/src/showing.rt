@@ -6,19 +6,39 @@ ghost use Rattle.point_hints.specs.Showing.{IsShown};
 use crate::Shown;
 use crate::candidates::point_near;
 use crate::certificates::{guessed, is_refuted, multipliers};
+use crate::dictionary::Dictionary;
 use crate::search::{Clash, Found, Spot, search};
 use fm_eliminate::System;
 use lin_row::Point;
 use std::alloc::{AllocError, Global};
+
+/// How often a point is searched. Floats round, and the more the larger they are: after a search
+/// that misled, the next one begins where it ended, with small numbers.
+const SEARCHES: usize = 3;
 
 /// Whether the system has a point, if a search with floats finds one, or multiples of its rows that
 /// cannot hold together, and exact arithmetic confirms what it found.
 pub fn show(alloc: Global, system: &System) -> Result<Shown, AllocError>
     ensures { IfOk result (IsShown system.now) }
 {
-    match search(alloc, system)? {
-        Found::Inside(spot) => show_point(alloc, system, &spot),
-        Found::Conflict(clash) => show_conflict(alloc, system, &clash),
+    let mut dictionary = Dictionary::of_rows(alloc, system.rows())?;
+    for _ in 0..SEARCHES {
+        let found = search(&mut dictionary, system.rows());
+        let shown = shown_by(alloc, system, &found)?;
+        if shown != Shown::Nothing {
+            return Ok(shown);
+        }
+        dictionary.recentre(system.rows());
+    }
+    Ok(Shown::Nothing)
+}
+
+fn shown_by(alloc: Global, system: &System, found: &Found) -> Result<Shown, AllocError>
+    ensures { IfOk result (IsShown system.now) }
+{
+    match found {
+        Found::Inside(spot) => show_point(alloc, system, spot),
+        Found::Conflict(clash) => show_conflict(alloc, system, clash),
         Found::Nothing => Ok(Shown::Nothing),
     }
 }

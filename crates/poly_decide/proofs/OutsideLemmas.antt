@@ -1,6 +1,6 @@
 -- A row leaves out exactly the points at which its opposite holds.
-use Rattle.std.proofs.Common.{◌≡◌, ◌↔◌, inl, inr, ℕ, ◌≤◌, Bool, true, false, not, List, [], ◌∷◌, ◌++◌, length, map, get_or, refl, sym, ◌∙◌, subst, arith, ℤ, pos, neg_ℤ, ◌*ℤ◌}
-use Rattle.std.specs.Prelude.{All, Any}
+use Rattle.std.proofs.Common.{◌≡◌, inl, inr, ℕ, Bool, true, false, not, List, [], ◌∷◌, ◌++◌, length, refl, sym, ◌∙◌, subst, arith, ℤ, pos, neg_ℤ}
+use Rattle.std.specs.Prelude.{Any}
 use Rattle.std.proofs.lemmas.Int.{ints, by_lt_z}
 use Rattle.std.proofs.lemmas.List.{length-map}
 use Rattle.std.proofs.lemmas.List.Elements.{All-nil, All-cons, All-append}
@@ -10,11 +10,10 @@ use Rattle.poly_specs.proofs.InclusionLemmas.{in_left, in_right, in_either}
 use Rattle.poly_specs.proofs.IntLemmas.{neg_mul}
 use Rattle.poly_specs.proofs.LineLemmas.{Allows-or_not}
 use Rattle.poly_specs.proofs.RowLemmas.{Holds-dominated}
-use Rattle.poly_specs.specs.Bounds.{IsPoint, Entails}
+use Rattle.poly_specs.specs.Bounds.{Entails}
 use Rattle.poly_specs.specs.Columns.{IsDominated}
 use Rattle.poly_specs.specs.Elimination.{divided}
-use Rattle.poly_specs.specs.Rows.{Point, Row, row_value, Allows, Holds, AllHold, AllWide}
-use Rattle.poly_specs.specs.Systems.{System}
+use Rattle.poly_specs.specs.Rows.{Point, Row, row_value, Allows, Holds, AllWide}
 use Rattle.point_hints.specs.Showing.{IsShown}
 use Rattle.point_hints.specs.declared.Shown.{Shown}
 use Rattle.point_hints.specs.declared.Shown.TheVariants.{Empty, Inhabited, Nothing}

@@ -2,7 +2,7 @@
 use Rattle.std.proofs.Common.{◌≡◌, ◌⊎◌, inl, inr, ℕ, zero, suc, ◌+◌, ◌<◌, List, [], ◌∷◌, ◌++◌, length, take, drop, get_or, refl, sym, ◌∙◌, ap, subst, arith}
 use Rattle.poly_specs.proofs.EliminationLemmas.{AllHold-from_in, AllHold-at_in, width_in}
 use Rattle.poly_specs.proofs.InclusionLemmas.{in_left, in_right, in_either}
-use Rattle.fm_eliminate.proofs.LeavingLemmas.{all_from_in, in_get_or}
+use Rattle.fm_eliminate.proofs.LeavingLemmas.{all_from_in}
 use Rattle.poly_specs.specs.Bounds.{Entails}
 use Rattle.poly_specs.specs.Lists.{In, IsAmong}
 use Rattle.poly_specs.specs.Rows.{Row, Holds, AllWide}

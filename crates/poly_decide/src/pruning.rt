@@ -9,7 +9,7 @@ ghost use Rattle.poly_decide.specs.Pruned.{IsPruned, IsThinned, AreUndominated, 
 use crate::outside::{add_copies, shown_outside};
 use fm_eliminate::System;
 use lin_row::Row;
-use point_hints::Shown;
+use point_hints::{Shown, likely_needed};
 use std::alloc::{AllocError, Global};
 
 /// A system with the same points, of some of the rows in their order.
@@ -45,20 +45,40 @@ fn without_late(alloc: Global, width: usize, rows: &[Row]) -> Result<Vec<Row>, A
     ensures thinned { IfOk result (λ v. IsThinned width rows.now v.items) }
     ensures wide { IfOk result (λ v. AllWide width v.items) }
 {
+    let marks = likely_needed(alloc, width, rows)?;
     let mut left = Vec::new(alloc);
+    let mut place = 0usize;
     for row in rows {
-        add_needed(alloc, width, &mut left, row)?;
+        add_needed(
+            alloc,
+            width,
+            &mut left,
+            row,
+            is_marked(marks.as_slice(), place),
+        )?;
+        place = place.wrapping_add(1);
     }
     Ok(left)
 }
 
+/// Whether the row at this place is likely needed.
+fn is_marked(marks: &[bool], place: usize) -> bool {
+    *marks.get(place).unwrap_or(&false)
+}
+
 /// Adds the row, unless it is found to be implied.
-fn add_needed(alloc: Global, width: usize, left: &mut Vec<Row>, row: &Row) -> Result<(), AllocError>
+fn add_needed(
+    alloc: Global,
+    width: usize,
+    left: &mut Vec<Row>,
+    row: &Row,
+    is_marked: bool,
+) -> Result<(), AllocError>
     requires wide { AllWide width left.old.items }
     requires width { length row.now.coef ≡ width }
     ensures { OnOk result ((rows : List RowValue) → IsThinned width rows left.old.items → IsThinned width (rows ++ row.now ∷ []) left.new.items) }
 {
-    if is_found_implied(alloc, width, left.as_slice(), row)? {
+    if is_found_implied(alloc, width, left.as_slice(), row, is_marked)? {
         return Ok(());
     }
     left.push(row.copy())?;
@@ -71,10 +91,18 @@ fn without_implied(alloc: Global, width: usize, rows: Vec<Row>) -> Result<Vec<Ro
     ensures thinned { IfOk result (λ v. IsThinned width rows.items v.items) }
     ensures undominated { IfOk result (λ v. AreUndominated v.items) }
 {
+    let marks = likely_needed(alloc, width, rows.as_slice())?;
     let count = rows.len();
     let mut left = rows;
     for done in 0..count {
-        left = without_one(alloc, width, left, count - 1 - done)?;
+        let place = count - 1 - done;
+        left = without_one(
+            alloc,
+            width,
+            left,
+            place,
+            is_marked(marks.as_slice(), place),
+        )?;
     }
     Ok(left)
 }
@@ -85,6 +113,7 @@ fn without_one(
     width: usize,
     rows: Vec<Row>,
     place: usize,
+    is_marked: bool,
 ) -> Result<Vec<Row>, AllocError>
     requires wide { AllWide width rows.items }
     ensures thinned { IfOk result (λ v. IsThinned width rows.items v.items) }
@@ -94,7 +123,7 @@ fn without_one(
         return Ok(rows);
     }
     let others = others_of(alloc, rows.as_slice(), place)?;
-    if is_found_implied(alloc, width, others.as_slice(), &rows[place])? {
+    if is_found_implied(alloc, width, others.as_slice(), &rows[place], is_marked)? {
         return Ok(others);
     }
     Ok(rows)
@@ -112,11 +141,13 @@ fn others_of(alloc: Global, rows: &[Row], place: usize) -> Result<Vec<Row>, Allo
 }
 
 /// Whether one of the rows dominates the row, or it is shown that it leaves out no point of the rows.
+/// A row that is marked is likely needed: nothing is searched for it.
 fn is_found_implied(
     alloc: Global,
     width: usize,
     rows: &[Row],
     row: &Row,
+    is_marked: bool,
 ) -> Result<bool, AllocError>
     requires wide { AllWide width rows.now }
     requires width { length row.now.coef ≡ width }
@@ -124,6 +155,9 @@ fn is_found_implied(
 {
     if is_dominated(row, rows) {
         return Ok(true);
+    }
+    if is_marked {
+        return Ok(false);
     }
     let implied = is_shown_implied(alloc, width, rows, row)?;
     Ok(implied)

@@ -1,4 +1,3 @@
-use Rattle.poly_decide.specs.Pruned.{IsThinned}
 use Rattle.poly_decide.proofs.PruneLemmas.{thinned_trans, wide_thinned}
 use Rattle.poly_decide.proofs.pruning.thinned.Goals as goal
 
