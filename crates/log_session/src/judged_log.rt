@@ -27,27 +27,28 @@ use lha_model::{Automaton, Name, Sample};
 use log_reader::{LogRow, parse_cells, parse_header, parse_row};
 use log_specs::{LogForm, Refusal, RunsMode};
 use log_table::{LogTable, NotTaken};
-use session_drive::Stepping;
+use session_drive::Drive;
 use std::alloc::{AllocError, Global};
 use std::marker::Model;
 use std::sync::Arc;
 
 /// A log that is judged line by line: that of one session, whose first line with a byte is its header, or rows of many sessions.
 ///
-/// A contract sees what is known of it after the lines so far, and which words its replies had.
+/// A contract sees what is known of it after the lines so far, and which words its replies had. How its samples are driven is
+/// none of that.
 #[derive(Drop)]
-pub struct JudgedLog<'a> {
+pub struct JudgedLog<'a, D> {
     form: LogForm,
     models: &'a [Arc<Automaton>],
     runs: RunsMode,
     table: LogTable,
-    driver: Stepping,
+    driver: D,
     has_begun: bool,
     has_alarm: bool,
     has_overflow: bool,
 }
 
-impl<'a> Model for JudgedLog<'a> {
+impl<'a, D> Model for JudgedLog<'a, D> {
     ghost use Rattle.std.specs.Prelude.{map};
     ghost use Rattle.std.specs.Arc.{arc_value};
     ghost use Rattle.log_session.specs.Progress.{Progress};
@@ -60,16 +61,17 @@ impl<'a> Model for JudgedLog<'a> {
     ghost invariant = { λ c. IsKept c.form (map (λ a. arc_value a) c.models.now) c.table c.has_begun };
 }
 
-impl<'a> JudgedLog<'a> {
+impl<'a, D: Drive> JudgedLog<'a, D> {
     /// A log of which no line was judged yet, for automata each of whose variables have distinct names, with at most 6 jumps in each
-    /// gap, and the runs of these alarms behind their replies. Takes no memory.
+    /// gap, the runs of these alarms behind their replies, and this way to drive samples. Takes no memory.
     pub fn new(
         alloc: Global,
         form: LogForm,
         models: &'a [Arc<Automaton>],
         jumps: u8,
         runs: RunsMode,
-    ) -> JudgedLog<'a>
+        driver: D,
+    ) -> JudgedLog<'a, D>
         requires jumps { jumps ≤ 6 }
         requires distinct { All (λ (a : Automaton). IsDistinct bytes_eq a.variables) (map (λ a. arc_value a) models.now) }
         ensures { result ≡ at_start form (map (λ a. arc_value a) models.now) jumps runs }
@@ -79,7 +81,7 @@ impl<'a> JudgedLog<'a> {
             models,
             runs,
             table: LogTable::new(alloc, jumps),
-            driver: Stepping::new(),
+            driver,
             has_begun: false,
             has_alarm: false,
             has_overflow: false,

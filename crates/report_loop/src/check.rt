@@ -17,6 +17,7 @@ use log_reader::{Line, LineReader, ReadFault};
 use log_session::JudgedLog;
 use log_specs::{LogForm, RunsMode};
 use mon_io::{Sink, SinkFault, Source};
+use session_drive::Drive;
 use std::alloc::{AllocError, Global};
 use std::sync::Arc;
 
@@ -24,9 +25,9 @@ use std::sync::Arc;
 const LOG_LIMIT: u64 = 1 << 34;
 
 /// Adds the block of what the reader gave, and tells whether it was a line. After an error what is pending is as before.
-fn add_block(
+fn add_block<D: Drive>(
     alloc: Global,
-    judged: &mut JudgedLog<'_>,
+    judged: &mut JudgedLog<'_, D>,
     line: Line,
     pending: &mut Vec<u8>,
 ) -> Result<bool, AllocError>
@@ -49,7 +50,7 @@ fn add_block(
 }
 
 /// The status at the end of a log.
-fn status_of(judged: &JudgedLog<'_>) -> Status
+fn status_of<D: Drive>(judged: &JudgedLog<'_, D>) -> Status
     ensures { result ≡ status_at_end judged.now.has_alarm judged.now.has_overflow }
 {
     if judged.has_alarm() {
@@ -73,10 +74,10 @@ fn fault_status(fault: ReadFault) -> Status
 }
 
 /// Reads a line and adds its block to the pending ones; the status if the reading ended.
-fn read_line<L: Source>(
+fn read_line<L: Source, D: Drive>(
     alloc: Global,
     reader: &mut LineReader,
-    judged: &mut JudgedLog<'_>,
+    judged: &mut JudgedLog<'_, D>,
     pending: &mut Vec<u8>,
     log: &mut L,
 ) -> Option<Status>
@@ -118,10 +119,10 @@ fn flush_before_read<O: Sink>(
 
 /// Reads lines until the reading ends, and writes their blocks whenever the reader holds no whole line. Gives the status of the
 /// reading, with blocks that may be pending yet.
-fn read_lines<L: Source, O: Sink>(
+fn read_lines<L: Source, O: Sink, D: Drive>(
     alloc: Global,
     reader: &mut LineReader,
-    judged: &mut JudgedLog<'_>,
+    judged: &mut JudgedLog<'_, D>,
     pending: &mut Vec<u8>,
     log: &mut L,
     out: &mut O,
@@ -145,16 +146,17 @@ fn read_lines<L: Source, O: Sink>(
 }
 
 /// Reports a log of this form: reads its lines, judges them by the automata with at most so many jumps in each gap, and writes the
-/// block of each, with the runs of these alarms behind their replies. The log of `check` is judged by the first automaton. It returns
-/// whenever the source and the sink do.
+/// block of each, with the runs of these alarms behind their replies. The log of `check` is judged by the first automaton. The samples
+/// are driven by the driver, whichever it is. It returns whenever the source and the sink do.
 ///
 /// No two automata have one name, and no two variables of one automaton, as in a model's text.
-pub fn report_log<L: Source, O: Sink>(
+pub fn report_log<L: Source, O: Sink, D: Drive + Drop>(
     alloc: Global,
     form: LogForm,
     models: &[Arc<Automaton>],
     jumps: u8,
     runs: RunsMode,
+    driver: D,
     log: &mut L,
     out: &mut O,
 ) -> Status
@@ -168,7 +170,7 @@ pub fn report_log<L: Source, O: Sink>(
     let Ok(mut reader) = LineReader::new(alloc, LOG_LIMIT) else {
         return Status::Memory;
     };
-    let mut judged = JudgedLog::new(alloc, form, models, jumps, runs);
+    let mut judged = JudgedLog::new(alloc, form, models, jumps, runs, driver);
     let mut pending = Vec::new(alloc);
     match read_lines(alloc, &mut reader, &mut judged, &mut pending, log, out) {
         Ok(status) => write_rest(out, &mut pending, status),
