@@ -13,7 +13,7 @@ use Rattle.live_session.specs.Driven.{IsFor, IsGiven, IsDriven}
 use Rattle.live_session.specs.Entries.{entry_of}
 use Rattle.live_session.proofs.DrivenLemmas.{nothing_more, driven}
 use Rattle.session_drive.specs.declared.counts.Counts.{Counts}
-use Rattle.session_drive.specs.Remembering.{GapMemo, IsServed, Remembers, IsGivenOver, IsDrivenOver}
+use Rattle.session_drive.specs.Remembered.{GapMemo, IsServed, Remembers, IsGivenOver, IsDrivenOver}
 
 -- the session after the sample, where this was given
 abbrev after_it : MonitorSession → Sample → Option Entry → MonitorSession

@@ -5,13 +5,16 @@
 #![tactic(auto)]
 
 mod counts;
+mod crossing;
 mod driver;
 mod fillers;
 mod local;
+mod remembering;
 mod stepping;
 
 pub use counts::{Counts, DriveFault};
 pub use driver::Drive;
 pub use fillers::{GatedStep, Step};
 pub use local::drive_local;
+pub use remembering::Remembering;
 pub use stepping::Stepping;

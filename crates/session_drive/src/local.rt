@@ -1,14 +1,13 @@
 //! Drives samples over a memo that is lent.
 
-ghost use Rattle.std.specs.Prelude.{◌≡◌, ◌⊎◌, All, Some, None, IfSome, IfOk, IfErr, OnOk, OnErr};
+ghost use Rattle.std.specs.Prelude.{◌≡◌, All, Some, None, IfSome, IfOk, IfErr, OnOk, OnErr};
 ghost use Rattle.std.specs.Arc.{arc_value};
-ghost use Rattle.std.specs.Map.{lookup_entry};
 ghost use Rattle.number_specs.specs.LogNumbers.{IsLogNumber};
 ghost use Rattle.run_specs.specs.Logs as logs;
 ghost use Rattle.run_specs.specs.Sessions.{IsMonitorSession, Idle, Begun, wanted, wanted_for};
 ghost use Rattle.run_specs.specs.Worlds.{IsBegin};
 ghost use Rattle.succ_memo.specs.Memo.{memo_after_put, memo_after_give_up};
-ghost use Rattle.session_drive.specs.Remembering.{IsServed, IsGivenOver, IsDrivenOver, IsUndriven, IsLeft, MayHaveGivenUp};
+ghost use Rattle.session_drive.specs.Remembered.{IsServed, IsGivenOver, IsDrivenOver, IsUndriven, IsLeft, MayHaveGivenUp};
 
 use crate::counts::{Counts, DriveFault};
 use gap_keys::Key;
@@ -39,7 +38,7 @@ const ONE_FILL: Counts = Counts {
     fills: 1,
 };
 
-/// An entry of the key, shared once more.
+/// An entry that is made for the key, and the same shared once more.
 fn made_twice<F: Fill<GapRelation>>(
     alloc: Global,
     filler: &Filler<GapRelation, F>,
@@ -52,6 +51,23 @@ fn made_twice<F: Fill<GapRelation>>(
     let entry = filler.fill(alloc, key)?;
     let mine = Arc::try_clone(&entry)?;
     Ok((entry, mine))
+}
+
+/// Spends a ticket on putting the entry, or, where memory is wanting, on nothing.
+fn put_or_give_up(
+    alloc: Global,
+    memo: &mut MemoState<GapRelation>,
+    ticket: Ticket,
+    entry: Arc<Held<GapRelation>>,
+) -> Result<(), AllocError>
+    ensures put { OnOk result (memo.new ≡ memo_after_put ⟦<Key as PartialEq>⟧.eq (arc_value entry) memo.old) }
+    ensures err { OnErr result (memo.new ≡ memo_after_give_up memo.old) }
+{
+    if let Err(PutFault { ticket, entry: _ }) = memo.put(alloc, ticket, entry) {
+        memo.give_up(ticket);
+        return Err(AllocError);
+    }
+    Ok(())
 }
 
 /// An entry of the key that a look missed: it is made, and the ticket is spent on putting it. Where
@@ -67,18 +83,16 @@ fn fill_missed<F: Fill<GapRelation>>(
     ensures put { IfOk result (λ entry. memo.new ≡ memo_after_put ⟦<Key as PartialEq>⟧.eq (arc_value entry) memo.old) }
     ensures err { OnErr result (memo.new ≡ memo_after_give_up memo.old) }
 {
-    let (entry, mine) = match made_twice(alloc, filler, key) {
-        Ok(both) => both,
+    match made_twice(alloc, filler, key) {
+        Ok((entry, mine)) => {
+            put_or_give_up(alloc, memo, ticket, entry)?;
+            Ok(mine)
+        }
         Err(AllocError) => {
             memo.give_up(ticket);
-            return Err(AllocError);
+            Err(AllocError)
         }
-    };
-    if let Err(PutFault { ticket, entry: _ }) = memo.put(alloc, ticket, entry) {
-        memo.give_up(ticket);
-        return Err(AllocError);
     }
-    Ok(mine)
 }
 
 /// The entry of the key: by one look, and where that finds none, by filling and one put.
