@@ -18,6 +18,7 @@ use lha_model::Automaton;
 use log_specs::LogForm;
 use mon_io::{Shelf, Sink, Source};
 use report_loop::{Status, report_log};
+use session_drive::{Remembering, Stepping};
 use std::alloc::Global;
 use std::sync::Arc;
 
@@ -45,12 +46,14 @@ pub fn check_log<L: Source, O: Sink>(
         models,
         options.jumps,
         options.runs,
+        Stepping::new(),
         log,
         out,
     )
 }
 
-/// Watches a log of many sessions, each of one of some automata, and writes its report, with the runs that the options ask for.
+/// Watches a log of many sessions, each of one of some automata, and writes its report, with the runs that the options ask for. The
+/// sessions share one memo, of as many entries as the options say.
 ///
 /// No two of them have one name, nor two variables of one of them, as in a model's text. It returns whenever the source and the sink
 /// do.
@@ -63,20 +66,25 @@ pub fn watch_logs<L: Source, O: Sink>(
 ) -> Status
     requires names { AreNamedApart (map (λ a. arc_value a) models.now) }
     requires jumps { options.now.jumps ≤ 6 }
+    requires memo { 1 ≤ options.now.memo }
     ensures { Says (rules_of (log_task LogForm.Watch (map (λ a. arc_value a) models.now) options.now.jumps options.now.runs))
         (record { log = L.told log.old; log_faults = L.faults log.old; out = O.taken out.old; out_faults = O.faults out.old })
         (record { log = L.told log.new; log_faults = L.faults log.new; out = O.taken out.new; out_faults = O.faults out.new })
         result }
 {
-    report_log(
-        alloc,
-        LogForm::Watch,
-        models,
-        options.jumps,
-        options.runs,
-        log,
-        out,
-    )
+    match Remembering::bounded(alloc, options.memo as usize) {
+        Ok(driver) => report_log(
+            alloc,
+            LogForm::Watch,
+            models,
+            options.jumps,
+            options.runs,
+            driver,
+            log,
+            out,
+        ),
+        Err(_) => Status::Memory,
+    }
 }
 
 /// Reports the log of a command for some automata.
@@ -89,6 +97,7 @@ fn report<L: Source, O: Sink>(
 ) -> Status
     requires names { AreNamedApart (map (λ a. arc_value a) models.now) }
     requires jumps { request.now.options.jumps ≤ 6 }
+    requires memo { 1 ≤ request.now.options.memo }
     ensures { Says (rules_of (log_task (form_of (said_command request.now.command)) (map (λ a. arc_value a) models.now) request.now.options.jumps request.now.options.runs))
         (record { log = L.told log.old; log_faults = L.faults log.old; out = O.taken out.old; out_faults = O.faults out.old })
         (record { log = L.told log.new; log_faults = L.faults log.new; out = O.taken out.new; out_faults = O.faults out.new })

@@ -8,22 +8,11 @@ ghost use Rattle.live_session.specs.Driven.{IsDriven, IsGiven};
 ghost use Rattle.live_session.specs.Refusals.{IsRefused};
 
 use crate::driver::Drive;
-use gap_keys::{Key, Outcome};
+use crate::fillers::Step;
 use lha_model::Sample;
 use live_session::{GapRelation, SampleRefusal, Session, Verdict};
-use sample_succ::step;
 use std::alloc::{AllocError, Global};
-use succ_memo::{Fill, Filler};
-
-/// Makes the entry of a gap by a step over it.
-#[derive(Drop)]
-struct Step;
-
-impl Fill<GapRelation> for Step {
-    fn answer(&self, alloc: Global, key: &Key) -> Result<Outcome, AllocError> {
-        step(alloc, key)
-    }
-}
+use succ_memo::Filler;
 
 /// Gives a session the entry that it wants, if it wants one. After an error it is as it was.
 fn give_wanted(

@@ -1,0 +1,2 @@
+pub mod DrivenOver
+pub mod FoundKeys
