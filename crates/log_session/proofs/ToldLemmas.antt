@@ -1,5 +1,5 @@
 -- What a line does is told by a block that it may have.
-use Rattle.std.proofs.Common.{◌≡◌, ℕ, List, [], ◌∷◌, ◌++◌, Bool, true, false, ◌||◌, Option, refl, sym, ap, ◌∙◌, subst}
+use Rattle.std.proofs.Common.{◌≡◌, ℕ, List, [], ◌∷◌, ◌++◌, Bool, true, Option, refl, sym, ap, ◌∙◌, subst}
 use Rattle.std.specs.Prelude.{codes, decimal}
 use Rattle.std.proofs.lemmas.List.{append-nil, append_assoc}
 use Rattle.run_specs.specs.Automaton.{Automaton}
@@ -9,20 +9,18 @@ use Rattle.log_specs.specs.declared.LogForm.{LogForm}
 use Rattle.log_specs.specs.declared.RunsMode.{RunsMode}
 use Rattle.log_specs.specs.LogRows.{Cells}
 use Rattle.log_specs.specs.LogSessions.{LogState, Judgement, passed_over, opened, closed, flushed, accepted, judge_opening, judge_closing, judge_sample, session_of}
-use Rattle.log_specs.specs.Blocks.{Task, last_of, wants_run, IsRunPart, IsAnswered, subject, verdict_word, is_alarm}
+use Rattle.log_specs.specs.Blocks.{Task, last_of, wants_run, IsRunPart, IsAnswered, subject, verdict_word}
 use Rattle.alarm_report.specs.ReportLines.{spoken_of, verdict_line}
 use Rattle.log_table.specs.declared.not_taken.NotTaken.{NotTaken}
 use Rattle.log_table.specs.Refusals.{IsNotTaken}
 use Rattle.log_table.specs.Tables.{Table, state_with, IsOpening, IsClosing, IsAccepted}
-use Rattle.log_session.specs.Progress.{Progress, IsTaskOf, is_overflow, progress_after}
+use Rattle.log_session.specs.declared.tally.Tally.{Tally}
+use Rattle.log_session.specs.Tallies.{with_reply}
+use Rattle.log_session.specs.Progress.{Progress, IsTaskOf, progress_after}
 use Rattle.log_session.specs.Parts.{progress_of}
 use Rattle.log_session.specs.Behind.{StandsBehind}
 use Rattle.log_session.proofs.BehindLemmas.{run_part}
 use Rattle.log_session.specs.Told.{Tells, TellsOpening, TellsClosing, TellsSample, IsToldBy}
-
-pub or_false : (x : Bool) → (x || false) ≡ x
-or_false true = refl
-or_false false = refl
 
 -- the judgement is the same
 pub told_as : (task : Task) (old new : Progress) (number : ℕ) (j i : Judgement) (before after : List ℕ) → j ≡ i →
@@ -37,9 +35,7 @@ told_after task old new number j before bytes after e h = subst (λ x. Tells tas
 -- ---- a line that is passed over
 
 no_reply : (p : Progress) → p ≡ progress_after p passed_over []
-no_reply p =
-    sym (ap (λ z. record p { has_alarm = z; has_overflow = p.has_overflow || false }) (or_false p.has_alarm)
-    ∙ ap (λ z. record p { has_overflow = z }) (or_false p.has_overflow))
+no_reply p = refl
 
 pub passed_told : (task : Task) (p : Progress) (number : ℕ) (bytes : List ℕ) → Tells task p p number passed_over bytes bytes
 passed_told task p number bytes =
@@ -48,72 +44,61 @@ passed_told task p number bytes =
 -- ---- by the table
 
 module _ (form : LogForm) (models : List Automaton) (runs : RunsMode) (t : Table) (b : Bool) where
-  abbrev old : Bool → Bool → Progress
-  old x y = progress_of form models runs t b x y
+  abbrev old : Tally → Progress
+  old x = progress_of form models runs t b x
 
-  abbrev new : Table → Bool → Bool → Progress
-  new u x y = progress_of form models runs u true x y
+  abbrev new : Table → Tally → Progress
+  new u x = progress_of form models runs u true x
 
-  pub opening_told : (u : Table) (x y : Bool) (number : ℕ) (name : List ℕ) (columns : List (List ℕ)) (a : Option Automaton) (bytes : List ℕ) → IsOpening t u name columns a →
-      TellsOpening (old x y) (new u x y) number name columns a bytes bytes
-  opening_told u x y number name columns a bytes h = λ task is.
-      told_as task (old x y) (new u x y) number (judge_opening (state_with b t) name columns a (session_of (state_with b t) name)) (opened h.session) bytes bytes (h.judged b)
+  pub opening_told : (u : Table) (x : Tally) (number : ℕ) (name : List ℕ) (columns : List (List ℕ)) (a : Option Automaton) (bytes : List ℕ) → IsOpening t u name columns a →
+      TellsOpening (old x) (new u x) number name columns a bytes bytes
+  opening_told u x number name columns a bytes h = λ task is.
+      told_as task (old x) (new u x) number (judge_opening (state_with b t) name columns a (session_of (state_with b t) name)) (opened h.session) bytes bytes (h.judged b)
       (record {
         block = [];
         replies = [];
         grown = sym (append-nil bytes);
         is_block = (refl, refl);
-        next =
-            let table = h.next in
-            let alarm = or_false x in
-            let overflow = or_false y in
-            cc (table, alarm, overflow);
+        next = let table = h.next in cc table;
       })
 
-  pub closing_told : (u : Table) (x y : Bool) (number : ℕ) (name bytes : List ℕ) → IsClosing t u name → TellsClosing (old x y) (new u x y) number name bytes bytes
-  closing_told u x y number name bytes h = λ task is.
-      told_as task (old x y) (new u x y) number (judge_closing name (session_of (state_with b t) name)) (closed name) bytes bytes (h.judged b)
+  pub closing_told : (u : Table) (x : Tally) (number : ℕ) (name bytes : List ℕ) → IsClosing t u name → TellsClosing (old x) (new u x) number name bytes bytes
+  closing_told u x number name bytes h = λ task is.
+      told_as task (old x) (new u x) number (judge_closing name (session_of (state_with b t) name)) (closed name) bytes bytes (h.judged b)
       (record {
         block = [];
         replies = [];
         grown = sym (append-nil bytes);
         is_block = (refl, refl);
-        next =
-            let table = h.next in
-            let alarm = or_false x in
-            let overflow = or_false y in
-            cc (table, alarm, overflow);
+        next = let table = h.next in cc table;
       })
 
-  pub flush_told : (task : Task) (x y : Bool) (number : ℕ) (bytes : List ℕ) → Tells task (old x y) (new t x y) number flushed bytes bytes
-  flush_told task x y number bytes = record {
+  pub flush_told : (task : Task) (x : Tally) (number : ℕ) (bytes : List ℕ) → Tells task (old x) (new t x) number flushed bytes bytes
+  flush_told task x number bytes = record {
     block = [];
     replies = [];
     grown = sym (append-nil bytes);
     is_block = (refl, refl);
-    next =
-        let alarm = or_false x in
-        let overflow = or_false y in
-        cc (alarm, overflow);
+    next = refl;
   }
 
-  module _ (u : Table) (x y : Bool) (number : ℕ) (name : List ℕ) (cells : Cells) (v : Verdict) (h : IsAccepted t u name cells v) (said : Option (List ℕ)) (says : spoken_of said ≡ subject form name)
-      (alarm overflow : Bool) (is_one : alarm ≡ is_alarm v) (is_other : overflow ≡ is_overflow v)
+  module _ (u : Table) (x : Tally) (number : ℕ) (name : List ℕ) (cells : Cells) (v : Verdict) (h : IsAccepted t u name cells v) (said : Option (List ℕ)) (says : spoken_of said ≡ subject form name)
+      (counted : Tally) (is_one : counted ≡ with_reply x v)
       (wanted : Bool) (is_wanted : wanted ≡ wants_run runs (last_of t.replied name) v) (run : List ℕ) (stands : StandsBehind u name wanted run) where
     abbrev line : List ℕ
     line = verdict_line number said v ++ run
 
-    spoken : (task : Task) → IsTaskOf task (old x y) → line ≡ decimal number ++ subject task.form h.session.name ++ verdict_word v ++ codes "\n" ++ run
+    spoken : (task : Task) → IsTaskOf task (old x) → line ≡ decimal number ++ subject task.form h.session.name ++ verdict_word v ++ codes "\n" ++ run
     spoken task is =
         let speaks : spoken_of said ≡ subject task.form h.session.name =
         says ∙ ap (subject form) (sym h.named) ∙ ap (λ f. subject f h.session.name) (sym is.form) in
         ap (λ z. decimal number ++ z ++ verdict_word v ++ codes "\n" ++ run) speaks
 
-    wanted_so : (task : Task) → IsTaskOf task (old x y) → wanted ≡ wants_run task.runs (last_of t.replied h.session.name) v
+    wanted_so : (task : Task) → IsTaskOf task (old x) → wanted ≡ wants_run task.runs (last_of t.replied h.session.name) v
     wanted_so task is =
         is_wanted ∙ ap (λ n. wants_run runs (last_of t.replied n) v) (sym h.named) ∙ ap (λ m. wants_run m (last_of t.replied h.session.name) v) (sym is.runs)
 
-    answered : (task : Task) → IsTaskOf task (old x y) → IsAnswered task (last_of t.replied h.session.name) number h.session h.sample v line
+    answered : (task : Task) → IsTaskOf task (old x) → IsAnswered task (last_of t.replied h.session.name) number h.session h.sample v line
     answered task is = record {
       lawful = subst (λ j. IsLawful h.session.automaton j (h.session.samples ++ h.sample ∷ []) v) (sym is.jumps) h.lawful;
       stays = h.stays;
@@ -124,25 +109,21 @@ module _ (form : LogForm) (models : List Automaton) (runs : RunsMode) (t : Table
     }
 
     pub sample_told : (before after : List ℕ) → after ≡ before ++ verdict_line number said v ++ run →
-        TellsSample (old x y) (new u (x || alarm) (y || overflow)) number name cells before after
+        TellsSample (old x) (new u counted) number name cells before after
     sample_told before after grown = λ task is.
-        told_as task (old x y) (new u (x || alarm) (y || overflow)) number (judge_sample (state_with b t) cells (session_of (state_with b t) name)) (accepted h.session h.sample) before after (h.judged b)
+        told_as task (old x) (new u counted) number (judge_sample (state_with b t) cells (session_of (state_with b t) name)) (accepted h.session h.sample) before after (h.judged b)
         (record {
           block = line;
           replies = v ∷ [];
           grown = grown ∙ append_assoc before (verdict_line number said v) run;
           is_block = (v, answered task is, refl);
-          next =
-              let table = h.next in
-              let one = or_false (is_alarm v) in
-              let other = or_false (is_overflow v) in
-              cc (table, one, other, is_one, is_other);
+          next = let table = h.next in cc (table, is_one);
         })
 
   -- what the table did not take was told of the log
-  pub refused_told : (u : Table) (x y : Bool) (p after_it : Progress) (number : ℕ) (why : NotTaken) (judged : LogState → Judgement) (before after : List ℕ) →
-      old x y ≡ p → u ≡ t → IsNotTaken (λ begun. judged (state_with begun t)) why → IsToldBy (progress_of form models runs u b x y) after_it number why before after →
+  pub refused_told : (u : Table) (x : Tally) (p after_it : Progress) (number : ℕ) (why : NotTaken) (judged : LogState → Judgement) (before after : List ℕ) →
+      old x ≡ p → u ≡ t → IsNotTaken (λ begun. judged (state_with begun t)) why → IsToldBy (progress_of form models runs u b x) after_it number why before after →
       (task : Task) → Tells task p after_it number (judged p.known.state) before after
-  refused_told u x y p after_it number why judged before after view same h told task =
+  refused_told u x p after_it number why judged before after view same h told task =
       subst (λ (q : Progress). Tells task q after_it number (judged q.known.state) before after) view
-      (subst (λ (z : Table). IsToldBy (progress_of form models runs z b x y) after_it number why before after) same told task (λ begun. judged (state_with begun t)) h)
+      (subst (λ (z : Table). IsToldBy (progress_of form models runs z b x) after_it number why before after) same told task (λ begun. judged (state_with begun t)) h)

@@ -1,3 +1,4 @@
+pub mod Tallies
 pub mod Progress
 pub mod Parts
 pub mod Refusals

@@ -6,11 +6,12 @@ use Rattle.log_specs.specs.declared.LogForm.{LogForm}
 use Rattle.log_specs.specs.declared.LogForm.TheVariants.{Check}
 use Rattle.log_specs.specs.declared.RunsMode.{RunsMode}
 use Rattle.log_table.specs.Tables.{Table, known_with}
+use Rattle.log_session.specs.declared.tally.Tally.{Tally}
 use Rattle.log_session.specs.Progress.{Progress}
 
-abbrev pub progress_of : LogForm → List Automaton → RunsMode → Table → Bool → Bool → Bool → Progress
-progress_of form models runs t begun alarm overflow =
-    record { form = form; models = models; jumps = t.jumps; runs = runs; known = known_with begun t; has_alarm = alarm; has_overflow = overflow }
+abbrev pub progress_of : LogForm → List Automaton → RunsMode → Table → Bool → Tally → Progress
+progress_of form models runs t begun tally =
+    record { form = form; models = models; jumps = t.jumps; runs = runs; known = known_with begun t; tally = tally }
 
 -- what it keeps: the variables of each automaton have distinct names, and before the header of `check` no session is open
 pub record IsKept (form : LogForm) (models : List Automaton) (t : Table) (begun : Bool) : Type 0 where

@@ -1,29 +1,28 @@
 -- A log that is judged, between two lines.
-use Rattle.std.specs.Prelude.{◌≡◌, ℕ, List, ◌++◌, Bool, true, false, ◌||◌}
-use Rattle.std.specs.List.{list_any}
+use Rattle.std.specs.Prelude.{◌≡◌, ℕ, List, ◌++◌}
 use Rattle.run_specs.specs.Automaton.{Automaton}
 use Rattle.run_specs.specs.declared.Verdict.{Verdict}
-use Rattle.run_specs.specs.declared.Verdict.TheVariants.{Alarm, Safe, Impossible, Overflow}
 use Rattle.log_specs.specs.declared.LogForm.{LogForm}
 use Rattle.log_specs.specs.declared.RunsMode.{RunsMode}
 use Rattle.log_specs.specs.LogSessions.{Judgement}
-use Rattle.log_specs.specs.Blocks.{Task, is_alarm, IsBlock}
+use Rattle.log_specs.specs.Blocks.{Task, IsBlock}
 use Rattle.log_specs.specs.LogReports.{Known, nothing_known, judgement, known_after}
+use Rattle.log_session.specs.declared.tally.Tally.{Tally}
+use Rattle.log_session.specs.Tallies.{no_replies, tally_after}
 
--- how it is read, the automata and the jumps in each gap that it is judged by, which runs are printed, what is known of it, and whether
--- some reply was an alarm, or an overflow
+-- how it is read, the automata and the jumps in each gap that it is judged by, which runs are printed, what is known of it, and how
+-- often each verdict was replied
 pub record Progress : Type 0 where
   pub form : LogForm
   pub models : List Automaton
   pub jumps : ℕ
   pub runs : RunsMode
   pub known : Known
-  pub has_alarm : Bool
-  pub has_overflow : Bool
+  pub tally : Tally
 
 -- before the first line
 abbrev pub at_start : LogForm → List Automaton → ℕ → RunsMode → Progress
-at_start form models jumps runs = record { form = form; models = models; jumps = jumps; runs = runs; known = nothing_known; has_alarm = false; has_overflow = false }
+at_start form models jumps runs = record { form = form; models = models; jumps = jumps; runs = runs; known = nothing_known; tally = no_replies }
 
 -- the task of judging a log so
 pub record IsTaskOf (task : Task) (p : Progress) : Type 0 where
@@ -31,12 +30,6 @@ pub record IsTaskOf (task : Task) (p : Progress) : Type 0 where
   pub models : task.models ≡ p.models
   pub jumps : task.jumps ≡ p.jumps
   pub runs : task.runs ≡ p.runs
-
-abbrev pub is_overflow : Verdict → Bool
-is_overflow Alarm = false
-is_overflow Safe = false
-is_overflow Impossible = false
-is_overflow Overflow = true
 
 -- after what a line does, and the replies in its block
 abbrev pub progress_after : Progress → Judgement → List Verdict → Progress
@@ -46,8 +39,7 @@ progress_after p j replies = record {
   jumps = p.jumps;
   runs = p.runs;
   known = known_after p.known j replies;
-  has_alarm = p.has_alarm || list_any is_alarm replies;
-  has_overflow = p.has_overflow || list_any is_overflow replies;
+  tally = tally_after p.tally replies;
 }
 
 -- the line of this number was judged for the task: a block that it may have was added to those before

@@ -21,7 +21,8 @@ ghost use Rattle.log_session.specs.Told.{Tells, TellsHeader, TellsCells, TellsRo
 use crate::naming::{first_of, named};
 use crate::refusals::row_refusal;
 use crate::running::run_behind;
-use crate::words::{is_alarm, is_overflow, subject, wants_run};
+use crate::tally::Tally;
+use crate::words::{subject, wants_run};
 use alarm_report::{put_answer, put_refusal, reserve_line};
 use lha_model::{Automaton, Name, Sample};
 use log_reader::{LogRow, parse_cells, parse_header, parse_row};
@@ -34,7 +35,7 @@ use std::sync::Arc;
 
 /// A log that is judged line by line: that of one session, whose first line with a byte is its header, or rows of many sessions.
 ///
-/// A contract sees what is known of it after the lines so far, and which words its replies had. How its samples are driven is
+/// A contract sees what is known of it after the lines so far, and how often each verdict was replied. How its samples are driven is
 /// none of that.
 #[derive(Drop)]
 pub struct JudgedLog<'a, D> {
@@ -44,8 +45,7 @@ pub struct JudgedLog<'a, D> {
     table: LogTable,
     driver: D,
     has_begun: bool,
-    has_alarm: bool,
-    has_overflow: bool,
+    tally: Tally,
 }
 
 impl<'a, D> Model for JudgedLog<'a, D> {
@@ -56,7 +56,7 @@ impl<'a, D> Model for JudgedLog<'a, D> {
 
     ghost Value = { Progress };
 
-    ghost view = { λ c. progress_of c.form (map (λ a. arc_value a) c.models.now) c.runs c.table c.has_begun c.has_alarm c.has_overflow };
+    ghost view = { λ c. progress_of c.form (map (λ a. arc_value a) c.models.now) c.runs c.table c.has_begun c.tally };
 
     ghost invariant = { λ c. IsKept c.form (map (λ a. arc_value a) c.models.now) c.table c.has_begun };
 }
@@ -83,23 +83,15 @@ impl<'a, D: Drive> JudgedLog<'a, D> {
             table: LogTable::new(alloc, jumps),
             driver,
             has_begun: false,
-            has_alarm: false,
-            has_overflow: false,
+            tally: Tally::default(),
         }
     }
 
-    /// Whether some reply was an alarm.
-    pub fn has_alarm(&self) -> bool
-        ensures { result ≡ self.now.has_alarm }
+    /// How often each verdict was replied.
+    pub fn tally(&self) -> Tally
+        ensures { result ≡ self.now.tally }
     {
-        self.has_alarm
-    }
-
-    /// Whether some reply was an overflow.
-    pub fn has_overflow(&self) -> bool
-        ensures { result ≡ self.now.has_overflow }
-    {
-        self.has_overflow
+        self.tally
     }
 
     /// Refuses a line, for whose block there is room.
@@ -198,8 +190,10 @@ impl<'a, D: Drive> JudgedLog<'a, D> {
         match self.table.reply(alloc, &mut self.driver, name, sample) {
             Ok(verdict) => {
                 self.has_begun = true;
-                self.has_alarm |= is_alarm(verdict);
-                self.has_overflow |= is_overflow(verdict);
+                let Some(tally) = self.tally.with(verdict) else {
+                    return Err(AllocError);
+                };
+                self.tally = tally;
                 let is_wanted = wants_run(self.runs, last, verdict);
                 let run = run_behind(alloc, &self.table, name, is_wanted)?;
                 put_answer(blocks, number, subject(self.form, name), verdict, &run)

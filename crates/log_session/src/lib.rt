@@ -5,6 +5,8 @@ mod judged_log;
 mod naming;
 mod refusals;
 mod running;
+mod tally;
 mod words;
 
 pub use judged_log::JudgedLog;
+pub use tally::Tally;

@@ -4,23 +4,15 @@ ghost use Rattle.std.specs.Prelude.{◌≡◌, IfSome};
 ghost use Rattle.std.specs.Option.{option_map};
 ghost use Rattle.log_specs.specs.Blocks as blocks;
 ghost use Rattle.alarm_report.specs.ReportLines.{spoken_of};
-ghost use Rattle.log_session.specs.Progress as progress;
 
 use log_specs::{LogForm, RunsMode};
 use run_specs::Verdict;
 
 /// Whether a reply is an alarm.
-pub(crate) fn is_alarm(verdict: Verdict) -> bool
+fn is_alarm(verdict: Verdict) -> bool
     ensures { result ≡ blocks.is_alarm verdict }
 {
     matches!(verdict, Verdict::Alarm)
-}
-
-/// Whether a reply is an overflow.
-pub(crate) fn is_overflow(verdict: Verdict) -> bool
-    ensures { result ≡ progress.is_overflow verdict }
-{
-    matches!(verdict, Verdict::Overflow)
 }
 
 /// Whether the reply before was an alarm.

@@ -1,4 +1,4 @@
-pub mod FlagLemmas
+pub mod TallyLemmas
 pub mod StreamLemmas
 pub mod WriteLemmas
 pub mod Progress

@@ -1,6 +1,7 @@
 -- A report grows line by line.
 use Rattle.std.proofs.Common.{◌≡◌, ◌↔◌, inl, ℕ, ◌+◌, ◌<◌, ◌≤◌, List, [], ◌∷◌, ◌++◌, length, append_assoc, Bool, true, false, Option, None, Some, Result, Ok, Err, IsTrue, refl, sym, ◌∙◌, ap, subst, arith}
-use Rattle.std.specs.Prelude.{Contains}
+use Rattle.std.specs.Prelude.{Contains, nat_le, if◌then◌else◌}
+use Rattle.std.proofs.lemmas.Bool.{le-leb, leb-true}
 use Rattle.std.proofs.lemmas.List.{append-nil, length-append}
 use Rattle.std.specs.Io.KnownBytes.{Appends}
 use Rattle.mon_io.specs.Faults.{Rose}
@@ -24,13 +25,14 @@ use Rattle.log_reader.proofs.MoveLemmas.{is_own}
 use Rattle.log_reader.proofs.FillLemmas.{Consumes-more, Consumes-nothing}
 use Rattle.log_reader.proofs.GivenLemmas.{given_line, given_end, given_whole}
 use Rattle.log_specs.specs.declared.RunsMode.{RunsMode}
+use Rattle.log_session.specs.Tallies.{tally_of}
 use Rattle.log_session.specs.Progress.{Progress, at_start, IsTaskOf, progress_after, AddsLine}
 use Rattle.report_loop.specs.declared.status.Status.{Status}
 use Rattle.report_loop.specs.declared.status.Status.TheVariants as status
 use Rattle.report_loop.specs.Tasks.{log_task}
 use Rattle.report_loop.specs.Outcome.{Streams, Wrote, HasEnded, CoversAll, CoversWhole, CoversSome, AllTold, SomeAlarm, OnlyOverflow, Says, SaysBut, WriteSays, log_limit}
-use Rattle.report_loop.specs.Turns.{AddsBlock, is_line, Tells, IsReporting, IsReportingAt, GivesOne, FlushSays, status_at_end, status_for, write_status_for}
-use Rattle.report_loop.proofs.FlagLemmas.{tells_more}
+use Rattle.report_loop.specs.Turns.{AddsBlock, is_line, IsReporting, IsReportingAt, GivesOne, FlushSays, status_at_end, status_for, write_status_for}
+use Rattle.report_loop.proofs.TallyLemmas.{tally_more, alarm_told, overflow_told}
 use Rattle.report_loop.proofs.StreamLemmas.{counted, ends_by, below_by, first_given}
 use Rattle.report_loop.proofs.WriteLemmas.{streams, rose_before, Appends-more, write_failed}
 
@@ -92,22 +94,24 @@ ends_all task before l k o f h w r new p pending got P i g none nothing over sai
   };
 }
 
--- no reply is this one, where its flag is not set
-no_reply : (flag : Bool) (replies : List Verdict) (v : Verdict) → flag ≡ false → IsTrue flag ↔ Contains replies v → Contains replies v → ⊥
-no_reply flag replies v e h c = let no : false ≡ true = sym e ∙ h.1 c in cc
+-- no reply is this one, where none is counted
+no_reply : (count : ℕ) (replies : List Verdict) (v : Verdict) → nat_le 1 count ≡ false → (Contains replies v → 1 ≤ count) → Contains replies v → ⊥
+no_reply count replies v e h c = let no : false ≡ true = sym e ∙ le-leb 1 count (h c) in cc
 
--- the status of all that was replied, by the flags
+-- the status of all that was replied, by the tally
 end_status : (task : Task) (before : Streams) (l k o : Option (List ℕ)) (f h w : ℕ) (r new : Reading) (p : Progress) (pending got : List ℕ) (a b : Bool) →
-    p.has_alarm ≡ a → p.has_overflow ≡ b → (i : IsReportingAt task before (streams l f o w) r p pending) → Gets l k r new got → HasNoFeed (r.held ++ got) →
-    unmarked r.given (r.held ++ got) ≡ [] → new.has_ended ≡ true → SaysBut (rules_of task) before (streams k h o w) pending (status_at_end a b)
+    nat_le 1 p.tally.alarm ≡ a → nat_le 1 p.tally.overflow ≡ b → (i : IsReportingAt task before (streams l f o w) r p pending) → Gets l k r new got → HasNoFeed (r.held ++ got) →
+    unmarked r.given (r.held ++ got) ≡ [] → new.has_ended ≡ true → SaysBut (rules_of task) before (streams k h o w) pending (if a then status.Alarm else if b then status.Overflow else status.Clean)
 end_status task before l k o f h w r new p pending got true b alarm overflow i g none nothing over =
-    ends_all task before l k o f h w r new p pending got SomeAlarm i g none nothing over (i.tells.alarm.0 alarm)
+    ends_all task before l k o f h w r new p pending got SomeAlarm i g none nothing over ((alarm_told p.tally i.replies i.counted).0 (leb-true 1 p.tally.alarm alarm))
 end_status task before l k o f h w r new p pending got false true alarm overflow i g none nothing over =
     ends_all task before l k o f h w r new p pending got OnlyOverflow i g none nothing over
-    (no_reply p.has_alarm i.replies verdict.Alarm alarm i.tells.alarm, i.tells.overflow.0 overflow)
+    (no_reply p.tally.alarm i.replies verdict.Alarm alarm (alarm_told p.tally i.replies i.counted).1,
+    (overflow_told p.tally i.replies i.counted).0 (leb-true 1 p.tally.overflow overflow))
 end_status task before l k o f h w r new p pending got false false alarm overflow i g none nothing over =
     ends_all task before l k o f h w r new p pending got AllTold i g none nothing over
-    (no_reply p.has_alarm i.replies verdict.Alarm alarm i.tells.alarm, no_reply p.has_overflow i.replies verdict.Overflow overflow i.tells.overflow)
+    (no_reply p.tally.alarm i.replies verdict.Alarm alarm (alarm_told p.tally i.replies i.counted).1,
+    no_reply p.tally.overflow i.replies verdict.Overflow overflow (overflow_told p.tally i.replies i.counted).1)
 
 -- the reading failed
 pub fails : (task : Task) (before : Streams) (l k o : Option (List ℕ)) (f h w : ℕ) (r new : Reading) (p : Progress) (pending got : List ℕ) (x : ReadFault) →
@@ -181,7 +185,7 @@ goes_on task before l k o f h w r new p q pending after got line i g gives adds 
       blocks = subst (λ z. AreBlocks (rules_of task) nothing_known 1 (i.lines ++ a.0 ∷ []) z (i.replies ++ a.3.replies) q.known) bytes all;
       taken = i.taken;
       is_task = still_task task p q j a.3.replies a.3.next i.is_task;
-      tells = subst (λ z. Tells z (i.replies ++ a.3.replies)) (sym a.3.next) (tells_more p j i.replies a.3.replies i.tells);
+      counted = ap (λ (z : Progress). z.tally) a.3.next ∙ tally_more p.tally i.replies a.3.replies i.counted;
       log_faults = omega (arith, first, reads);
       out_faults = i.out_faults;
     }
@@ -189,14 +193,14 @@ goes_on task before l k o f h w r new p q pending after got line i g gives adds 
 -- the end of the log
 pub ends : (task : Task) (before : Streams) (l k o : Option (List ℕ)) (f h w : ℕ) (r new : Reading) (p q : Progress) (pending after got : List ℕ) (line : Line) (ended : Status) →
     (i : IsReportingAt task before (streams l f o w) r p pending) → Gets l k r new got → Gives (r.held ++ got) r new line →
-    AddsBlock task line p q pending after → is_line line ≡ false → ended ≡ status_at_end q.has_alarm q.has_overflow → SaysBut (rules_of task) before (streams k h o w) after ended
+    AddsBlock task line p q pending after → is_line line ≡ false → ended ≡ status_at_end q.tally → SaysBut (rules_of task) before (streams k h o w) after ended
 ends task before l k o f h w r new p q pending after got (Text n line) ended i g gives adds none is = let no : true ≡ false = none in cc
 ends task before l k o f h w r new p q pending after got (Long n) ended i g gives adds none is = let no : true ≡ false = none in cc
 ends task before l k o f h w r new p q pending after got End ended i g gives adds none is =
-    let same : ended ≡ status_at_end p.has_alarm p.has_overflow = is ∙ ap (λ (z : Progress). status_at_end z.has_alarm z.has_overflow) adds.1 in
+    let same : ended ≡ status_at_end p.tally = is ∙ ap (λ (z : Progress). status_at_end z.tally) adds.1 in
     let P : List ℕ → Status → Type 0 = λ z x. SaysBut (rules_of task) before (streams k h o w) z x in
     subst (λ z. P z ended) (sym adds.0)
-    (subst (λ x. P pending x) (sym same) (end_status task before l k o f h w r new p pending got p.has_alarm p.has_overflow refl refl i g gives.2 gives.3 gives.1))
+    (subst (λ x. P pending x) (sym same) (end_status task before l k o f h w r new p pending got (nat_le 1 p.tally.alarm) (nat_le 1 p.tally.overflow) refl refl i g gives.2 gives.3 gives.1))
 
 -- ---- between two lines
 
@@ -241,7 +245,7 @@ flushed task before l o x f w v r p pending after u i wrote =
           (sym (append-nil (i.written ++ pending)) ∙ ap (λ z. (i.written ++ pending) ++ z) (sym wrote.1)) i.blocks;
       taken = Appends-more before.out o x i.written pending i.taken wrote.0;
       is_task = i.is_task;
-      tells = i.tells;
+      counted = i.counted;
       log_faults = i.log_faults;
       out_faults = omega (arith, first, later);
     }
@@ -277,12 +281,6 @@ Appends-nothing : (old : Option (List ℕ)) → Appends old old []
 Appends-nothing None = tt
 Appends-nothing (Some xs) = sym (append-nil xs)
 
-no_flag : (v : Verdict) → IsTrue false ↔ Contains [] v
-no_flag v = (λ t. absurd (no_both t), λ c. let l = c.1 in absurd (omega (arith, l)))
-  where
-    no_both : false ≡ true → ⊥
-    no_both n = cc
-
 started_at : (task : Task) (l o : Option (List ℕ)) (f w : ℕ) (r : Reading) (form : LogForm) (models : List Automaton) (jumps : ℕ) (runs : RunsMode) (pending : List ℕ) →
     r ≡ record { held = []; given = 0; taken = 0; most = log_limit; has_ended = false } → IsTaskOf task (at_start form models jumps runs) → pending ≡ [] →
     IsReportingAt task (streams l f o w) (streams l f o w) r (at_start form models jumps runs) pending
@@ -301,7 +299,7 @@ started_at task l o f w r form models jumps runs pending is fits none = record {
   blocks = (none, refl, refl);
   taken = Appends-nothing o;
   is_task = fits;
-  tells = record { alarm = no_flag verdict.Alarm; overflow = no_flag verdict.Overflow };
+  counted = refl;
   log_faults = omega arith;
   out_faults = omega arith;
 }

@@ -1,8 +1,7 @@
 -- A report in the making.
-use Rattle.std.specs.Prelude.{◌≡◌, ◌↔◌, ℕ, ◌+◌, ◌<◌, ◌≤◌, List, ◌++◌, length, Bool, true, false, if◌then◌else◌, Option, Some, None, Result, Ok, Err, IsTrue, Contains}
+use Rattle.std.specs.Prelude.{◌≡◌, ℕ, ◌+◌, ◌<◌, ◌≤◌, List, ◌++◌, length, Bool, true, false, if◌then◌else◌, Option, Some, None, Result, Ok, Err, nat_le}
 use Rattle.std.specs.Io.KnownBytes.{Appends, Consumes}
 use Rattle.run_specs.specs.declared.Verdict.{Verdict}
-use Rattle.run_specs.specs.declared.Verdict.TheVariants as verdict
 use Rattle.report_specs.specs.Report.{AreBlocks}
 use Rattle.log_specs.specs.Blocks.{Task}
 use Rattle.log_specs.specs.LogReports.{nothing_known, rules_of}
@@ -11,6 +10,8 @@ use Rattle.log_reader.specs.declared.line.Line.TheVariants.{Text, Long, End}
 use Rattle.log_reader.specs.declared.reader.ReadFault.{ReadFault}
 use Rattle.log_reader.specs.declared.reader.ReadFault.TheVariants.{Failed, Limit, Memory}
 use Rattle.log_reader.specs.Reading.{Reading, Stored, IsOf, HasGiven}
+use Rattle.log_session.specs.declared.tally.Tally.{Tally}
+use Rattle.log_session.specs.Tallies.{tally_of}
 use Rattle.log_session.specs.Progress.{Progress, IsTaskOf, AddsLine}
 use Rattle.mon_io.specs.declared.sink.SinkFault.{SinkFault}
 use Rattle.mon_io.specs.declared.sink.SinkFault.TheVariants as sink
@@ -30,11 +31,6 @@ AddsBlock task (Text number line) p q old new = AddsLine task p q number line.it
 AddsBlock task (Long number) p q old new = (line : List ℕ) → 4096 < length line → AddsLine task p q number line old new
 AddsBlock task End p q old new = (new ≡ old) × (q ≡ p)
 
--- the flags tell whether some reply was an alarm, or an overflow
-pub record Tells (p : Progress) (replies : List Verdict) : Type 0 where
-  pub alarm : IsTrue p.has_alarm ↔ Contains replies verdict.Alarm
-  pub overflow : IsTrue p.has_overflow ↔ Contains replies verdict.Overflow
-
 -- the lines that were given are reported: what was written and then what is pending
 pub record IsReportingAt (task : Task) (before now : Streams) (r : Reading) (p : Progress) (pending : List ℕ) : Type 0 where
   pub read : List ℕ
@@ -51,7 +47,7 @@ pub record IsReportingAt (task : Task) (before now : Streams) (r : Reading) (p :
   pub blocks : AreBlocks (rules_of task) nothing_known 1 lines (written ++ pending) replies p.known
   pub taken : Appends before.out now.out written
   pub is_task : IsTaskOf task p
-  pub tells : Tells p replies
+  pub counted : p.tally ≡ tally_of replies
   pub log_faults : before.log_faults ≤ now.log_faults
   pub out_faults : before.out_faults ≤ now.out_faults
 
@@ -69,9 +65,9 @@ pub record GivesOne (old new : Stored) : Type 0 where
   pub given : new.reading.given ≡ old.reading.given + 1
   pub most : new.reading.most ≡ old.reading.most
 
--- the status at the end of a log, by whether some reply was an alarm, or an overflow
-abbrev pub status_at_end : Bool → Bool → Status
-status_at_end has_alarm has_overflow = if has_alarm then status.Alarm else if has_overflow then status.Overflow else status.Clean
+-- the status at the end of a log, by how often each verdict was replied
+abbrev pub status_at_end : Tally → Status
+status_at_end t = if nat_le 1 t.alarm then status.Alarm else if nat_le 1 t.overflow then status.Overflow else status.Clean
 
 -- the status of a reading that failed
 abbrev pub status_for : ReadFault → Status

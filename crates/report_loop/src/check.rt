@@ -51,11 +51,12 @@ fn add_block<D: Drive>(
 
 /// The status at the end of a log.
 fn status_of<D: Drive>(judged: &JudgedLog<'_, D>) -> Status
-    ensures { result ≡ status_at_end judged.now.has_alarm judged.now.has_overflow }
+    ensures { result ≡ status_at_end judged.now.tally }
 {
-    if judged.has_alarm() {
+    let tally = judged.tally();
+    if tally.alarm >= 1 {
         Status::Alarm
-    } else if judged.has_overflow() {
+    } else if tally.overflow >= 1 {
         Status::Overflow
     } else {
         Status::Clean

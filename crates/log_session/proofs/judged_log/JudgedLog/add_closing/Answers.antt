@@ -11,15 +11,15 @@ use Rattle.log_session.proofs.judged_log.JudgedLog.add_closing.Goals as goal
 pub returns-in-Ok-clause-ok : goal.returns-in-Ok-clause-ok
 returns-in-Ok-clause-ok c =
     let i = c.self.inside in
-    subst (λ (p : Progress). TellsClosing p (progress_of i.form (map (λ a. arc_value a) i.models.now) i.runs c.close.new.self true i.has_alarm i.has_overflow) c.args.number c.args.name.now c.args.blocks.now.items c.args.blocks.now.items)
+    subst (λ (p : Progress). TellsClosing p (progress_of i.form (map (λ a. arc_value a) i.models.now) i.runs c.close.new.self true i.tally) c.args.number c.args.name.now c.args.blocks.now.items c.args.blocks.now.items)
     c.self.view_is
-    (closing_told i.form (map (λ a. arc_value a) i.models.now) i.runs i.table i.has_begun c.close.new.self i.has_alarm i.has_overflow c.args.number c.args.name.now c.args.blocks.now.items c.in-Ok.ensures.ok)
+    (closing_told i.form (map (λ a. arc_value a) i.models.now) i.runs i.table i.has_begun c.close.new.self i.tally c.args.number c.args.name.now c.args.blocks.now.items c.in-Ok.ensures.ok)
 
 pub returns-in-Err-clause-ok : goal.returns-in-Err-clause-ok
 returns-in-Err-clause-ok c =
     let i = c.self.inside in
     on_ok_weaker c.refuse_not_taken.result
     (λ told task is.
-    refused_told i.form (map (λ a. arc_value a) i.models.now) i.runs i.table i.has_begun c.close.new.self i.has_alarm i.has_overflow c.args.self.now c.refuse_not_taken.new.self c.args.number c.in-Err.why
+    refused_told i.form (map (λ a. arc_value a) i.models.now) i.runs i.table i.has_begun c.close.new.self i.tally c.args.self.now c.refuse_not_taken.new.self c.args.number c.in-Err.why
     (λ (at : LogState). judge_closing c.args.name.now (session_of at c.args.name.now)) c.args.blocks.now.items c.refuse_not_taken.new.blocks.items c.self.view_is c.in-Err.ensures.err c.in-Err.ensures.refusal told task)
     c.refuse_not_taken.ensures.ok

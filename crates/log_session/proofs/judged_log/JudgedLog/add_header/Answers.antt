@@ -18,6 +18,6 @@ returns-in-Ok-clause-ok c =
     subst (λ (r : Result (List (List ℕ)) Refusal). OnOk c.add_opening.result (TellsHeader c.args.self.now c.add_opening.new.self c.args.number r c.args.blocks.now.items c.add_opening.new.blocks.items))
     (ap (λ names. Ok names) c.deref.ensures.value ∙ sym c.in-Ok.ensures.columns)
     (on_ok_weaker c.add_opening.result
-    (header_told i.form models i.runs i.table i.has_begun i.has_alarm i.has_overflow c.args.self.now c.add_opening.new.self c.args.number c.deref.result.now
+    (header_told i.form models i.runs i.table i.has_begun i.tally c.args.self.now c.add_opening.new.self c.args.number c.deref.result.now
     (option_map (λ a. arc_value a.now) c.first_of-automaton.result) c.args.blocks.now.items c.add_opening.new.blocks.items c.self.view_is c.self.invariant c.requires.check c.requires.first first)
     c.add_opening.ensures.ok)

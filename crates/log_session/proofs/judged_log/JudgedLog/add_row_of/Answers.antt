@@ -56,8 +56,8 @@ returns-in-Flush-clause-ok c =
     let i = c.self-in-Flush.inside in
     let models = map (λ a. arc_value a) i.models.now in
     λ task of.
-    subst (λ (r : LogRow). Tells task c.args.self.now (progress_of i.form models i.runs i.table true i.has_alarm i.has_overflow) c.args.number (judge_row task.models c.args.self.now.known.state (Ok (row_said r))) c.args.blocks.now.items c.args.blocks.now.items)
+    subst (λ (r : LogRow). Tells task c.args.self.now (progress_of i.form models i.runs i.table true i.tally) c.args.number (judge_row task.models c.args.self.now.known.state (Ok (row_said r))) c.args.blocks.now.items c.args.blocks.now.items)
     (sym c.in-Flush.is)
-    (subst (λ (p : Progress). Tells task p (progress_of i.form models i.runs i.table true i.has_alarm i.has_overflow) c.args.number (judge_row task.models p.known.state (Ok flush)) c.args.blocks.now.items c.args.blocks.now.items)
+    (subst (λ (p : Progress). Tells task p (progress_of i.form models i.runs i.table true i.tally) c.args.number (judge_row task.models p.known.state (Ok flush)) c.args.blocks.now.items c.args.blocks.now.items)
     c.self-in-Flush.view_is
-    (flush_told i.form models i.runs i.table i.has_begun task i.has_alarm i.has_overflow c.args.number c.args.blocks.now.items))
+    (flush_told i.form models i.runs i.table i.has_begun task i.tally c.args.number c.args.blocks.now.items))

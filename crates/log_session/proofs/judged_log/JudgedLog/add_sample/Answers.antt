@@ -25,11 +25,11 @@ returns-in_ok-run-in-Ok-clause-ok c =
     let wanted = c.wants_run-is_wanted.ensures ∙ ap (λ l. wants_run i.runs l c.in-Ok.verdict) c.last_reply-last.ensures in
     on_ok_weaker c.put_answer.result
     (λ grown.
-    subst (λ (p : Progress). TellsSample p (progress_of i.form models i.runs c.reply.new.self true (i.has_alarm || c.is_alarm.result) (i.has_overflow || c.is_overflow.result)) c.args.number c.args.name.now
+    subst (λ (p : Progress). TellsSample p (progress_of i.form models i.runs c.reply.new.self true c.some.tally) c.args.number c.args.name.now
     (cells_in c.args.sample.now) c.args.blocks.now.items c.put_answer.new.blocks.items)
     c.self.view_is
-    (sample_told i.form models i.runs i.table i.has_begun c.reply.new.self i.has_alarm i.has_overflow c.args.number c.args.name.now (cells_in c.args.sample.now) c.in-Ok.verdict c.in-Ok.ensures.ok
-    (option_map (λ n. n.now) c.subject.result) c.subject.ensures.told c.is_alarm.result c.is_overflow.result c.is_alarm.ensures c.is_overflow.ensures
+    (sample_told i.form models i.runs i.table i.has_begun c.reply.new.self i.tally c.args.number c.args.name.now (cells_in c.args.sample.now) c.in-Ok.verdict c.in-Ok.ensures.ok
+    (option_map (λ n. n.now) c.subject.result) c.subject.ensures.told
     c.wants_run-is_wanted.result wanted c.deref.result.now (subst (StandsBehind c.reply.new.self c.args.name.now c.wants_run-is_wanted.result) (sym c.deref.ensures.value) c.in_ok-run-in-Ok.ensures)
     c.args.blocks.now.items c.put_answer.new.blocks.items grown))
     c.put_answer.ensures.ok
@@ -39,6 +39,6 @@ returns-in-Err-clause-ok c =
     let i = c.self.inside in
     on_ok_weaker c.refuse_not_taken.result
     (λ told task is.
-    refused_told i.form (map (λ a. arc_value a) i.models.now) i.runs i.table i.has_begun c.reply.new.self i.has_alarm i.has_overflow c.args.self.now c.refuse_not_taken.new.self c.args.number c.in-Err.why
+    refused_told i.form (map (λ a. arc_value a) i.models.now) i.runs i.table i.has_begun c.reply.new.self i.tally c.args.self.now c.refuse_not_taken.new.self c.args.number c.in-Err.why
     (λ (at : LogState). judge_sample at (cells_in c.args.sample.now) (session_of at c.args.name.now)) c.args.blocks.now.items c.refuse_not_taken.new.blocks.items c.self.view_is c.in-Err.ensures.err c.in-Err.ensures.refusal told task)
     c.refuse_not_taken.ensures.ok
