@@ -10,6 +10,7 @@ mod reader;
 mod refusal;
 mod rows;
 
+pub use held::first_feed;
 pub use line::{Line, without_mark, without_return};
 pub use reader::{LineReader, ReadFault};
 pub use refusal::RowRefusal;

@@ -2,8 +2,7 @@
 use Rattle.std.specs.Prelude.{◌≡◌, ◌≤◌, ℕ, List, [], ◌∷◌, length, Bool, false, Option, None, Some}
 use Rattle.run_specs.specs.Automaton.{Automaton}
 use Rattle.run_specs.specs.Logs.{Sample}
-use Rattle.log_specs.specs.declared.LogForm.TheVariants.{Check}
-use Rattle.log_specs.specs.LogSessions.{LogSession, LogState, Judgement, judge, state_after}
+use Rattle.log_specs.specs.LogSessions.{LogSession, LogState, Judgement, state_after}
 
 -- the automaton that judges, whether a line with a byte was read, the columns of the session if it is open, and its samples
 pub record SoFar : Type 0 where

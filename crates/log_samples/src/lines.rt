@@ -1,25 +1,16 @@
 //! The lines of a text.
 
-ghost use Rattle.std.specs.Prelude.{◌≡◌, ◌≢◌, ◌<◌, ◌∷◌, [], length, take, slice_index, All, IfSome, IfNone, MatchOption};
+ghost use Rattle.std.specs.Prelude.{◌≡◌, ◌<◌, ◌∷◌, [], length, IfSome, MatchOption};
 ghost use Rattle.report_specs.specs.Lines.{HasNoFeed};
 ghost use Rattle.log_samples.specs.Lines.{lines_from};
 
-use log_reader::without_return;
-use memchr::memchr;
+use log_reader::{first_feed, without_return};
 
 /// The first line of some bytes, without its end, and the bytes after it.
 #[derive(Clone, Copy)]
 pub(crate) struct Next<'a> {
     pub(crate) line: &'a [u8],
     pub(crate) after: &'a [u8],
-}
-
-/// Where the first line feed stands.
-fn first_feed(text: &[u8]) -> Option<usize>
-    ensures none { IfNone result (HasNoFeed text.now) }
-    ensures some { IfSome result (λ at. (at < length text.now) × (slice_index text.now at ≡ 10) × HasNoFeed (take at text.now)) }
-{
-    memchr(b'\n', text)
 }
 
 /// The first line; `None` where no byte is there.
@@ -40,6 +31,6 @@ pub(crate) fn next_line(text: &[u8]) -> Option<Next<'_>>
     }
     Some(Next {
         line: text,
-        after: &text[text.len()..],
+        after: &text[..0],
     })
 }

@@ -1,11 +1,12 @@
 //! What a line says to an automaton.
 
-ghost use Rattle.std.specs.Prelude.{◌≡◌, ◌<◌, map, length, IfOk, OnOk, IfSome};
+ghost use Rattle.std.specs.Prelude.{◌≡◌, ◌≢◌, ◌<◌, map, length, IfOk, OnOk, IfSome};
 ghost use Rattle.std.specs.Option.{option_map};
 ghost use Rattle.report_specs.specs.Lines.{HasNoFeed};
 ghost use Rattle.log_specs.specs.LogRows.{read_header, read_cells};
 ghost use Rattle.log_specs.specs.LogSessions as sessions;
 ghost use Rattle.log_specs.specs.LogSessions.{are_columns, cell_under, may_follow};
+ghost use Rattle.log_reader.specs.declared.refusal.RowRefusal.TheVariants.{Memory};
 ghost use Rattle.log_samples.specs.Rows as rows;
 ghost use Rattle.log_samples.specs.Rows.{IsHeaderOf, IsSampleOf};
 
@@ -38,6 +39,16 @@ fn are_columns(variables: &[Name], names: &[Name]) -> bool
     true
 }
 
+/// An error where there was no memory to read a line, and none where the line is refused.
+fn tell_memory(refusal: RowRefusal) -> Result<(), AllocError>
+    ensures { OnOk result (refusal ≢ Memory) }
+{
+    match refusal {
+        RowRefusal::Memory => Err(AllocError),
+        _ => Ok(()),
+    }
+}
+
 /// The columns of the header that a line is; `None` where it is refused.
 pub(crate) fn columns_of(
     alloc: Global,
@@ -48,11 +59,25 @@ pub(crate) fn columns_of(
     ensures { IfOk result (λ columns. IsHeaderOf automaton.now (read_header line.now) (option_map (λ c. c.items) columns)) }
 {
     match parse_header(alloc, line) {
-        Ok(names) if are_columns(automaton.vars(), &names) => Ok(Some(names)),
-        Ok(_) => Ok(None),
-        Err(RowRefusal::Memory) => Err(AllocError),
-        Err(_) => Ok(None),
+        Ok(names) => {
+            if are_columns(automaton.vars(), &names) {
+                Ok(Some(names))
+            } else {
+                Ok(None)
+            }
+        }
+        Err(refusal) => {
+            tell_memory(refusal)?;
+            Ok(None)
+        }
     }
+}
+
+/// Whether a number is below another.
+fn is_below(x: &Frac, y: &Frac) -> bool
+    ensures { result ≡ sessions.is_below x.now y.now }
+{
+    x.cmp(y).is_lt()
 }
 
 /// Whether a sample of this time may come after these.
@@ -60,7 +85,7 @@ fn may_follow(samples: &[Sample], time: &Frac) -> bool
     ensures { result ≡ may_follow samples.now time.now }
 {
     match samples.last() {
-        Some(last) => last.time().cmp(time).is_lt(),
+        Some(last) => is_below(last.time(), time),
         None => time.num() >= 0,
     }
 }
@@ -69,12 +94,17 @@ fn may_follow(samples: &[Sample], time: &Frac) -> bool
 fn cell_under(columns: &[Name], cells: &[Option<Frac>], variable: &Name) -> Option<Frac>
     ensures { result ≡ cell_under columns.now cells.now variable.now }
 {
-    for (column, cell) in columns.iter().zip(cells) {
-        if variable.bytes() == column.bytes() {
-            return *cell;
-        }
+    let [column, other_columns @ ..] = columns else {
+        return None;
+    };
+    let [cell, other_cells @ ..] = cells else {
+        return None;
+    };
+    if variable.bytes() == column.bytes() {
+        *cell
+    } else {
+        cell_under(other_columns, other_cells, variable)
     }
-    None
 }
 
 /// A cell for each variable.
@@ -121,8 +151,10 @@ pub(crate) fn sample_of(
 {
     let (time, cells) = match parse_cells(alloc, line) {
         Ok(row) => row,
-        Err(RowRefusal::Memory) => return Err(AllocError),
-        Err(_) => return Ok(None),
+        Err(refusal) => {
+            tell_memory(refusal)?;
+            return Ok(None);
+        }
     };
     if !is_accepted(columns, samples, &time, &cells) {
         return Ok(None);

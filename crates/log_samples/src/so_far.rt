@@ -91,8 +91,8 @@ impl<'a> SoFar<'a> {
 
     /// The samples.
     pub(crate) fn into_log(self) -> Log
-        ensures samples { result ≡ self.samples }
-        ensures kept { IsKept self }
+        ensures samples { result ≡ self.entry.samples }
+        ensures kept { IsKept self.entry }
     {
         Log::new(self.samples)
     }
