@@ -50,7 +50,7 @@ fn bytes_from(bytes: &[u8], at: usize) -> &[u8]
 }
 
 /// Where the first line feed stands.
-pub(crate) fn first_feed(bytes: &[u8]) -> Option<usize>
+pub fn first_feed(bytes: &[u8]) -> Option<usize>
     ensures none { IfNone result (HasNoFeed bytes.now) }
     ensures some { IfSome result (λ at. (at < length bytes.now) × (slice_index bytes.now at ≡ 10) × HasNoFeed (take at bytes.now)) }
 {

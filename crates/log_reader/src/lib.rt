@@ -10,7 +10,8 @@ mod reader;
 mod refusal;
 mod rows;
 
-pub use line::Line;
+pub use held::first_feed;
+pub use line::{Line, without_mark, without_return};
 pub use reader::{LineReader, ReadFault};
 pub use refusal::RowRefusal;
 pub use rows::{LogRow, parse_cells, parse_header, parse_row};

@@ -17,7 +17,7 @@ pub enum Line {
 }
 
 /// A line without one carriage return at its end.
-pub(crate) fn without_return(raw: &[u8]) -> &[u8]
+pub fn without_return(raw: &[u8]) -> &[u8]
     ensures { result.now ≡ without_return raw.now }
 {
     let size = raw.len();
@@ -29,7 +29,7 @@ pub(crate) fn without_return(raw: &[u8]) -> &[u8]
 }
 
 /// The bytes after the mark at the start of an input.
-fn without_mark(raw: &[u8]) -> &[u8]
+pub fn without_mark(raw: &[u8]) -> &[u8]
     ensures { result.now ≡ without_mark raw.now }
 {
     if raw.len() >= 3 && raw[0] == 0xEF && raw[1] == 0xBB && raw[2] == 0xBF {

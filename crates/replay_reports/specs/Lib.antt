@@ -1,0 +1,3 @@
+pub mod LogSamples
+pub mod PlusSigns
+pub mod Findings
