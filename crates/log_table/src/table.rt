@@ -185,7 +185,7 @@ impl LogTable {
     {
         match self.sessions.get(&SessionName::of(alloc, name)) {
             Some(opened) => opened.first_run(alloc),
-            None => Err(RowFault::Memory),
+            None => unreachable!(),
         }
     }
 }
