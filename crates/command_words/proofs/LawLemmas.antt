@@ -9,7 +9,7 @@ use Rattle.clap.specs.Simple.{Shape, built, entered}
 use Rattle.clap.specs.Kinds.{Kinds, or_else}
 use Rattle.clap.specs.Faults.{bundle_fault, check_fault, defaults_fault, entered_fault, flag_word_fault, settle_fault, step_fault, turn_fault, walk_fault, word_fault}
 use Rattle.clap.proofs.OnLiterals.{clap_on_literals}
-use Rattle.command_words.specs.CommandLine.{Request, command_by, command_line, default_options, plain_check, plain_watch, request_by, request_in, request_of, without_fault}
+use Rattle.command_words.specs.CommandLine.{Request, command_by, command_line, default_options, plain_check, plain_watch, plain_replay, request_by, request_in, request_of, without_fault}
 
 -- between two words, where no option waits for its value
 abbrev at : Held → ℕ → Walk
@@ -142,12 +142,12 @@ two_fault command name other d e f =
     ∙ ap₂ (λ (kinds : Kinds) (w : Walk). or_else kinds (or_else (turn_fault form [] w other) [])) (name_turn command name e) (name_walk command name e)
     ∙ ap (λ (kinds : Kinds). or_else kinds []) (plain_turn form (behind_name command name).held 3 other f)
 
-two_asked : (command name other : Text) → asked_by [] (behind_two command name other) ≡ None
+two_asked : (command name other : Text) → asked_by [] (behind_two command name other) ≡ request_by (command_by (Some command) (Some name) (Some other)) (Some default_options)
 unfolding clap_on_literals
 two_asked command name other = refl
 
 two_names : (command name other : Text) → starts_with_minus command ≡ false → starts_with_minus name ≡ false → starts_with_minus other ≡ false →
-    request_of (command ∷ name ∷ other ∷ []) ≡ None
+    request_of (command ∷ name ∷ other ∷ []) ≡ request_by (command_by (Some command) (Some name) (Some other)) (Some default_options)
 two_names command name other d e f =
     asked_by_walk (command ∷ name ∷ other ∷ []) ∙ ap₂ asked_by (two_fault command name other d e f) (two_walk command name other d e f)
     ∙ two_asked command name other
@@ -157,3 +157,11 @@ two_checks name other e f = two_names (codes "check") name other refl e f
 
 pub two_watches : (name other : Text) → starts_with_minus name ≡ false → starts_with_minus other ≡ false → request_of (codes "watch" ∷ name ∷ other ∷ []) ≡ None
 two_watches name other e f = two_names (codes "watch") name other refl e f
+
+pub two_replay : (name log : Text) → starts_with_minus name ≡ false → starts_with_minus log ≡ false → request_of (codes "replay" ∷ name ∷ log ∷ []) ≡ Some (plain_replay name log)
+unfolding clap_on_literals
+two_replay name log e f = two_names (codes "replay") name log refl e f
+
+pub one_no_replay : (name : Text) → starts_with_minus name ≡ false → request_of (codes "replay" ∷ name ∷ []) ≡ None
+unfolding clap_on_literals
+one_no_replay name e = one_name (codes "replay") name refl e

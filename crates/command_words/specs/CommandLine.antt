@@ -16,6 +16,8 @@ pub data Command : Type 0 where
   Check : Text → Command
   -- a log of many sessions is watched, by the automata of the model of this name
   Watch : Text → Command
+  -- by the first automaton of the model of the first name, a run is replayed on the log of the second name
+  Replay : Text → Text → Command
 
 -- what words ask for
 pub record Request : Type 0 where
@@ -110,9 +112,14 @@ command_named command model =
     else if bytes_eq command (codes "watch") then Some (Watch model)
     else None
 
--- the command of these words: `check` and `watch` take one more
+-- the command of this word with the names of a model and a log
+abbrev pub command_with_log : Text → Text → Text → Option Command
+command_with_log command model log = if bytes_eq command (codes "replay") then Some (Replay model log) else None
+
+-- the command of these words: `check` and `watch` take one more, `replay` two
 abbrev pub command_by : Option Text → Option Text → Option Text → Option Command
 command_by (Some command) (Some model) None = command_named command model
+command_by (Some command) (Some model) (Some log) = command_with_log command model log
 command_by _ _ _ = None
 
 -- the command of words of the form
@@ -145,3 +152,7 @@ plain_check name = record { command = Check name; options = default_options }
 -- a watch by the model of this name, with no option given
 abbrev pub plain_watch : Text → Request
 plain_watch name = record { command = Watch name; options = default_options }
+
+-- a replay by the model of the first name, on the log of the second, with no option given
+abbrev pub plain_replay : Text → Text → Request
+plain_replay model log = record { command = Replay model log; options = default_options }

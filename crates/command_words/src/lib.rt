@@ -4,8 +4,9 @@
 //! |---|---|
 //! | `hamon [options] check MODEL` | a log is checked against the model that MODEL names |
 //! | `hamon [options] watch MODEL` | a log of many sessions is watched, by the automata of the model that MODEL names |
+//! | `hamon [options] replay MODEL LOG` | a run is replayed on the log that LOG names, by the first automaton of the model that MODEL names |
 //!
-//! Both take the same options. These stand anywhere before a word `--`, each at most once, as `--jumps 3` or `--jumps=3`; all
+//! All take the same options. These stand anywhere before a word `--`, each at most once, as `--jumps 3` or `--jumps=3`; all
 //! words after `--` are taken as they are.
 //!
 //! | option | values | default |

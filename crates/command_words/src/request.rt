@@ -2,7 +2,7 @@
 ghost use Rattle.std.specs.Prelude.{◌≡◌, map, option_map, string_bytes, Some, None, IfOk, IfErr, IfSome, MatchResult};
 ghost use Rattle.clap.specs.Words.{found_of, rows_of};
 ghost use Rattle.command_words.specs.declared.fault.WordsFault.TheVariants.{Refused, Memory};
-ghost use Rattle.command_words.specs.CommandLine.{command_by, command_named, command_of, request_in, request_of, KeepsRanges};
+ghost use Rattle.command_words.specs.CommandLine.{command_by, command_named, command_with_log, command_of, request_in, request_of, KeepsRanges};
 ghost use Rattle.command_words.specs.CommandLine as line;
 ghost use Rattle.command_words.specs.Said.{said_command, said};
 
@@ -19,6 +19,8 @@ pub enum Command<'a> {
     Check { model: &'a str },
     /// A log of many sessions is watched, by the automata of the model of this name.
     Watch { model: &'a str },
+    /// By the first automaton of the model of this name, a run is replayed on the log of this name.
+    Replay { model: &'a str, log: &'a str },
 }
 
 /// What the words of a command line ask for.
@@ -39,6 +41,16 @@ fn command_named<'a>(command: &str, model: &'a str) -> Option<Command<'a>>
     }
 }
 
+/// The command of this word with the names of a model and a log; `None` where the word is unknown.
+fn command_with_log<'a>(command: &str, model: &'a str, log: &'a str) -> Option<Command<'a>>
+    ensures { option_map said_command result ≡ command_with_log command.now model.now log.now }
+{
+    match command {
+        "replay" => Some(Command::Replay { model, log }),
+        _ => None,
+    }
+}
+
 /// The command of these words; `None` where its word is unknown or wants more or fewer words.
 fn command_by<'a>(
     command: Option<&'a str>,
@@ -50,6 +62,7 @@ fn command_by<'a>(
 {
     match (command, first, second) {
         (Some(command), Some(model), None) => command_named(command, model),
+        (Some(command), Some(model), Some(log)) => command_with_log(command, model, log),
         _ => None,
     }
 }
@@ -78,7 +91,7 @@ fn request_in<'a>(matches: &ArgMatches<'a>) -> Option<Request<'a>>
 /// What the words of a command line, without the program's name, ask for.
 ///
 /// `check MODEL` checks a log against the model of this name, and `watch MODEL` watches a log of many sessions by the automata
-/// of the model of this name. Both take the same options, which stand anywhere before a word `--`, each at most
+/// of the model of this name. `replay MODEL LOG` replays a run on the log of the name LOG. All take the same options, which stand anywhere before a word `--`, each at most
 /// once, as `--jumps 3` or `--jumps=3`: `--jumps` from 0 to 6 (else 2), `--workers` from 1 to 32 (else 4), `--window` from 1
 /// to 1024 (else 64), `--memo` from 1 to 100000 (else 10000), and `--runs`, which is `none`, `first` or `all` (else `first`).
 /// Numbers are digits without a sign and without a leading zero. After `--` each word is taken as it is; before it a word

@@ -1,3 +1,0 @@
-pub mod Models
-pub mod Telling
-pub mod Runs

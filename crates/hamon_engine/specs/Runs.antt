@@ -7,27 +7,21 @@ use Rattle.log_specs.specs.declared.LogForm.{LogForm}
 use Rattle.log_specs.specs.declared.LogForm.TheVariants as form
 use Rattle.log_specs.specs.LogReports.{rules_of}
 use Rattle.text_specs.specs.ModelTexts.{SaysAutomata}
-use Rattle.command_words.specs.CommandLine.{Command, Check, Watch, Request}
+use Rattle.log_specs.specs.LogSessions.{first_automaton}
+use Rattle.command_words.specs.CommandLine.{Command, Check, Watch, Replay, Request}
+use Rattle.command_words.specs.declared.options.Options.{Options}
 use Rattle.report_loop.specs.declared.status.Status.{Status}
 use Rattle.report_loop.specs.declared.status.Status.TheVariants as status
 use Rattle.report_loop.specs.Tasks.{log_task}
 use Rattle.report_loop.specs.Outcome.{Streams, HasEnded, Says, IsUntouched, log_limit}
-
--- the log, the output and the shelf, before or after a run
-pub record Outside : Type 0 where
-  pub streams : Streams
-  pub shelf : List ℕ → Option (List ℕ)
-  pub shelf_faults : ℕ
+use Rattle.hamon_engine.specs.Outside.{Outside}
+use Rattle.hamon_engine.specs.ReplayRuns.{Replays, HasReplayCause, CompletesReplay}
 
 -- the name of a command's model
 abbrev pub model_of : Command → List ℕ
 model_of (Check model) = model
 model_of (Watch model) = model
-
--- how a command's log is read
-abbrev pub form_of : Command → LogForm
-form_of (Check model) = form.Check
-form_of (Watch model) = form.Watch
+model_of (Replay model log) = model
 
 -- the text of the model that words ask for, where they ask for one and the shelf tells it
 abbrev pub model_text : (List ℕ → Option (List ℕ)) → Option Request → Option (List ℕ)
@@ -45,10 +39,20 @@ pub record RefusesText (before now : Outside) (s : Status) : Type 0 where
   pub untouched : IsUntouched before.streams now.streams
   pub why : (s ≡ status.Model) ⊎ HasNoModel before now s
 
--- what a run does with a model's text: the report of the command's log for its automata, or a refusal
+-- a log of this form was reported for these automata
+abbrev pub Reports : LogForm → List Automaton → Options → Outside → Outside → Status → Type 0
+Reports form automata options before now s = Says (rules_of (log_task form automata options.jumps options.runs)) before.streams now.streams s
+
+-- what a command does with the automata of its model: the report of a log, or the line of a replay, by the first of them
+abbrev pub Does : Command → List Automaton → Options → Outside → Outside → Status → Type 0
+Does (Check model) automata options before now s = Reports form.Check automata options before now s
+Does (Watch model) automata options before now s = Reports form.Watch automata options before now s
+Does (Replay model log) automata options before now s =
+    (a : Automaton) × (first_automaton automata ≡ Some a) × Replays a options.jumps (before.shelf log) before now s
+
+-- what a run does with a model's text: what its command does with the automata, or a refusal
 pub record RunsText (before now : Outside) (s : Status) (r : Request) (text : List ℕ) : Type 0 where
-  pub reports : (automata : List Automaton) → SaysAutomata text automata →
-      Says (rules_of (log_task (form_of r.command) automata r.options.jumps r.options.runs)) before.streams now.streams s ⊎ HasNoModel before now s
+  pub does : (automata : List Automaton) → SaysAutomata text automata → Does r.command automata r.options before now s ⊎ HasNoModel before now s
   pub refuses : ((automata : List Automaton) → SaysAutomata text automata → ⊥) → RefusesText before now s
 
 -- what a run does with what its words ask for; None: they are refused
@@ -69,11 +73,17 @@ pub record IsUndisturbed (before now : Outside) : Type 0 where
 abbrev pub IsComplete : Status → Type 0
 IsComplete s = (s ≡ status.Clean) ⊎ ((s ≡ status.Alarm) ⊎ ((s ≡ status.Overflow) ⊎ (s ≡ status.Memory)))
 
+-- with nothing that disturbs, a command is complete
+abbrev pub CompletesCommand : Command → Outside → Outside → Status → Type 0
+CompletesCommand (Check model) before now s = IsUndisturbed before now → IsComplete s
+CompletesCommand (Watch model) before now s = IsUndisturbed before now → IsComplete s
+CompletesCommand (Replay model log) before now s = CompletesReplay (before.shelf log) before now s
+
 -- with a model's text that says automata and nothing that disturbs, a run is complete
 abbrev pub Completes : Outside → Outside → Status → Option Request → Type 0
 Completes before now s None = ⊤
 Completes before now s (Some r) =
-    IfSome (before.shelf (model_of r.command)) (λ text. (automata : List Automaton) → SaysAutomata text automata → IsUndisturbed before now → IsComplete s)
+    IfSome (before.shelf (model_of r.command)) (λ text. (automata : List Automaton) → SaysAutomata text automata → CompletesCommand r.command before now s)
 
 -- ---- causes
 
@@ -83,15 +93,26 @@ pub record ReadsMost (before now : Streams) : Type 0 where
   pub consumed : Consumes before.log now.log read
   pub most : length read ≡ log_limit
 
--- the causes of a status, also where no bytes are told. The other statuses do not come: no command gives them
-abbrev pub HasCause : Outside → Outside → Status → Type 0
-HasCause before now status.ReadFault = Rose before.streams.log_faults now.streams.log_faults ⊎ Rose before.shelf_faults now.shelf_faults
-HasCause before now status.WriteFault = Rose before.streams.out_faults now.streams.out_faults
-HasCause before now status.Words = IsUntouched before.streams now.streams
-HasCause before now status.Model = IsUntouched before.streams now.streams
-HasCause before now status.Clean = HasEnded before.streams now.streams
-HasCause before now status.Alarm = HasEnded before.streams now.streams
-HasCause before now status.Overflow = HasEnded before.streams now.streams
-HasCause before now status.Limit = ReadsMost before.streams now.streams
-HasCause before now status.Memory = ⊤
-HasCause before now _ = ⊥
+-- the causes of a status of a log's report, also where no bytes are told. The other statuses do not come
+abbrev pub HasLogCause : Outside → Outside → Status → Type 0
+HasLogCause before now status.ReadFault = Rose before.streams.log_faults now.streams.log_faults ⊎ Rose before.shelf_faults now.shelf_faults
+HasLogCause before now status.WriteFault = Rose before.streams.out_faults now.streams.out_faults
+HasLogCause before now status.Words = IsUntouched before.streams now.streams
+HasLogCause before now status.Model = IsUntouched before.streams now.streams
+HasLogCause before now status.Clean = HasEnded before.streams now.streams
+HasLogCause before now status.Alarm = HasEnded before.streams now.streams
+HasLogCause before now status.Overflow = HasEnded before.streams now.streams
+HasLogCause before now status.Limit = ReadsMost before.streams now.streams
+HasLogCause before now status.Memory = ⊤
+HasLogCause before now _ = ⊥
+
+-- by the command
+abbrev pub HasCommandCause : Command → Outside → Outside → Status → Type 0
+HasCommandCause (Check model) before now s = HasLogCause before now s
+HasCommandCause (Watch model) before now s = HasLogCause before now s
+HasCommandCause (Replay model log) before now s = HasReplayCause (before.shelf log) before now s
+
+-- the causes of a run's status, by what its words ask for
+abbrev pub HasCause : Option Request → Outside → Outside → Status → Type 0
+HasCause None before now s = HasLogCause before now s
+HasCause (Some r) before now s = HasCommandCause r.command before now s

@@ -1,5 +1,5 @@
 //! The top call.
-ghost use Rattle.std.specs.Prelude.{◌≡◌, ◌≤◌, map, string_bytes, Some};
+ghost use Rattle.std.specs.Prelude.{◌≡◌, ◌≤◌, length, map, string_bytes, Some};
 ghost use Rattle.std.specs.Arc.{arc_value};
 ghost use Rattle.log_specs.specs.declared.LogForm.TheVariants as LogForm;
 ghost use Rattle.log_specs.specs.LogReports.{rules_of};
@@ -8,10 +8,11 @@ ghost use Rattle.report_loop.specs.Names.{AreNamedApart};
 ghost use Rattle.report_loop.specs.Tasks.{log_task};
 ghost use Rattle.command_words.specs.CommandLine.{request_of};
 ghost use Rattle.command_words.specs.Said.{said_command, said};
-ghost use Rattle.hamon_engine.specs.Runs.{model_of, form_of, model_text, RunsWords, Completes, HasCause};
+ghost use Rattle.hamon_engine.specs.Runs.{model_of, model_text, Does, RunsWords, Completes, HasCause};
 ghost use Rattle.hamon_engine.specs.Telling.{status_of, ended_by, IsTellable, IsTold};
 
 use crate::models::{NoModels, models_from};
+use crate::replaying::replay_named;
 use crate::telling::{Ended, tell};
 use command_words::{Command, Options, Request, WordsFault, read_words};
 use lha_model::Automaton;
@@ -87,25 +88,32 @@ pub fn watch_logs<L: Source, O: Sink>(
     }
 }
 
-/// Reports the log of a command for some automata.
-fn report<L: Source, O: Sink>(
+/// Does what a command asks for, by some automata.
+///
+/// There is one at least, and no two of them have one name, nor two variables of one of them, as in a model's text.
+fn do_command<S: Shelf, L: Source, O: Sink>(
     alloc: Global,
     request: &Request<'_>,
     models: &[Arc<Automaton>],
+    shelf: &mut S,
     log: &mut L,
     out: &mut O,
 ) -> Status
+    requires some { 1 ≤ length models.now }
     requires names { AreNamedApart (map (λ a. arc_value a) models.now) }
     requires jumps { request.now.options.jumps ≤ 6 }
     requires memo { 1 ≤ request.now.options.memo }
-    ensures { Says (rules_of (log_task (form_of (said_command request.now.command)) (map (λ a. arc_value a) models.now) request.now.options.jumps request.now.options.runs))
-        (record { log = L.told log.old; log_faults = L.faults log.old; out = O.taken out.old; out_faults = O.faults out.old })
-        (record { log = L.told log.new; log_faults = L.faults log.new; out = O.taken out.new; out_faults = O.faults out.new })
+    ensures { Does (said_command request.now.command) (map (λ a. arc_value a) models.now) request.now.options
+        (record { streams = record { log = L.told log.old; log_faults = L.faults log.old; out = O.taken out.old; out_faults = O.faults out.old }; shelf = S.text shelf.old; shelf_faults = S.faults shelf.old })
+        (record { streams = record { log = L.told log.new; log_faults = L.faults log.new; out = O.taken out.new; out_faults = O.faults out.new }; shelf = S.text shelf.new; shelf_faults = S.faults shelf.new })
         result }
 {
     match request.command {
         Command::Check { .. } => check_log(alloc, models, &request.options, log, out),
         Command::Watch { .. } => watch_logs(alloc, models, &request.options, log, out),
+        Command::Replay { log: name, .. } => {
+            replay_named(alloc, models, &request.options, shelf, name, log, out)
+        }
     }
 }
 
@@ -115,6 +123,7 @@ fn model_of<'a>(command: Command<'a>) -> &'a str
 {
     match command {
         Command::Check { model } | Command::Watch { model } => model,
+        Command::Replay { model, .. } => model,
     }
 }
 
@@ -138,18 +147,19 @@ fn do_request<S: Shelf, L: Source, O: Sink>(
     out: &mut O,
 ) -> Ended
     requires jumps { request.now.options.jumps ≤ 6 }
+    requires memo { 1 ≤ request.now.options.memo }
     ensures report { RunsWords
         (record { streams = record { log = L.told log.old; log_faults = L.faults log.old; out = O.taken out.old; out_faults = O.faults out.old }; shelf = S.text shelf.old; shelf_faults = S.faults shelf.old })
         (record { streams = record { log = L.told log.new; log_faults = L.faults log.new; out = O.taken out.new; out_faults = O.faults out.new }; shelf = S.text shelf.new; shelf_faults = S.faults shelf.new })
         (status_of result) (Some (said request.now)) }
-    ensures cause { HasCause
+    ensures cause { HasCause (Some (said request.now))
         (record { streams = record { log = L.told log.old; log_faults = L.faults log.old; out = O.taken out.old; out_faults = O.faults out.old }; shelf = S.text shelf.old; shelf_faults = S.faults shelf.old })
         (record { streams = record { log = L.told log.new; log_faults = L.faults log.new; out = O.taken out.new; out_faults = O.faults out.new }; shelf = S.text shelf.new; shelf_faults = S.faults shelf.new })
         (status_of result) }
     ensures tellable { IsTellable (model_text (S.text shelf.old) (Some (said request.now))) result }
 {
     match models_from(alloc, shelf, model_of(request.command)) {
-        Ok(models) => Ended::At(report(alloc, request, &models, log, out)),
+        Ok(models) => Ended::At(do_command(alloc, request, &models, shelf, log, out)),
         Err(why) => ended_without(why),
     }
 }
@@ -166,7 +176,7 @@ fn do_words<S: Shelf, L: Source, O: Sink>(
         (record { streams = record { log = L.told log.old; log_faults = L.faults log.old; out = O.taken out.old; out_faults = O.faults out.old }; shelf = S.text shelf.old; shelf_faults = S.faults shelf.old })
         (record { streams = record { log = L.told log.new; log_faults = L.faults log.new; out = O.taken out.new; out_faults = O.faults out.new }; shelf = S.text shelf.new; shelf_faults = S.faults shelf.new })
         (status_of result) (request_of (map string_bytes words.now)) }
-    ensures cause { HasCause
+    ensures cause { HasCause (request_of (map string_bytes words.now))
         (record { streams = record { log = L.told log.old; log_faults = L.faults log.old; out = O.taken out.old; out_faults = O.faults out.old }; shelf = S.text shelf.old; shelf_faults = S.faults shelf.old })
         (record { streams = record { log = L.told log.new; log_faults = L.faults log.new; out = O.taken out.new; out_faults = O.faults out.new }; shelf = S.text shelf.new; shelf_faults = S.faults shelf.new })
         (status_of result) }
@@ -182,7 +192,9 @@ fn do_words<S: Shelf, L: Source, O: Sink>(
 /// Runs `hamon` on the words of its command line, without the program's name.
 ///
 /// `check MODEL` and `watch MODEL` read the model's text from the shelf and the log from its source, and write the report of the log
-/// to `out`: of one session, or of many.
+/// to `out`: of one session, or of many. `replay MODEL LOG` reads the texts of the model and of the log from the shelf and the text of a
+/// run where the others read a log, and writes one line that tells what is found of it.
+///
 /// One line on `diag` tells why a run ended early. Only want of memory is answered freely.
 pub fn run<S: Shelf, L: Source, O: Sink, D: Sink>(
     alloc: Global,
@@ -205,7 +217,7 @@ pub fn run<S: Shelf, L: Source, O: Sink, D: Sink>(
         result (request_of (map string_bytes words.now)) }
 
     // Each status has its cause: a fault is blamed only where a count rose, and a status that no command gives does not come.
-    ensures cause { HasCause
+    ensures cause { HasCause (request_of (map string_bytes words.now))
         (record { streams = record { log = L.told log.old; log_faults = L.faults log.old; out = O.taken out.old; out_faults = O.faults out.old }; shelf = S.text shelf.old; shelf_faults = S.faults shelf.old })
         (record { streams = record { log = L.told log.new; log_faults = L.faults log.new; out = O.taken out.new; out_faults = O.faults out.new }; shelf = S.text shelf.new; shelf_faults = S.faults shelf.new })
         result }

@@ -3,10 +3,12 @@
 
 mod command;
 mod models;
+mod replaying;
 mod telling;
 
 pub use command::{check_log, run, watch_logs};
 pub use command_words::{Options, RunsMode};
+pub use replaying::replay;
 pub use report_loop::Status;
 
 #[cfg(test)]

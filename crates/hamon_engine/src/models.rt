@@ -1,5 +1,5 @@
 //! The automata of a model that a shelf has.
-ghost use Rattle.std.specs.Prelude.{◌≡◌, ◌≤◌, length, map, option_map, IfOk, IfErr, IfSome};
+ghost use Rattle.std.specs.Prelude.{◌≡◌, ◌≤◌, ℕ, List, length, map, option_map, IfOk, IfErr, IfSome};
 ghost use Rattle.std.specs.Arc.{arc_value};
 ghost use Rattle.model_specs.specs.Automata.{HasOneOfEachName};
 ghost use Rattle.text_specs.specs.ModelTexts.{fault_line};
@@ -58,6 +58,7 @@ pub(crate) fn models_from<S: Shelf>(
     ensures some { IfOk result (λ v. 1 ≤ length v.items) }
     ensures names { IfOk result (λ v. HasOneOfEachName (map (λ a. arc_value a) v.items)) }
     ensures lack { IfErr result (LacksModels (S.text shelf.old name.now) (S.faults shelf.old) (S.faults shelf.new)) }
+    ensures same { (other : List ℕ) → S.text shelf.new other ≡ S.text shelf.old other }
     ensures later { S.faults shelf.old ≤ S.faults shelf.new }
 {
     match shelf.text(alloc, name, MODEL_LIMIT) {

@@ -2,6 +2,7 @@
 ghost use Rattle.std.specs.Prelude.{◌≤◌};
 
 mod models;
+mod replays;
 
 use super::{Status, run};
 use models::{CABIN, CHAIN, CLOSED, GROWING, LEVEL, NARROW, OPEN, SHARED, STEEP, TOLERANT, WIDE};
@@ -417,6 +418,8 @@ const REFUSED_WORDS: &[&[&str]] = &[
     &["check", "M", "M"],
     &["watch"],
     &["watch", "M", "M"],
+    &["replay", "M"],
+    &["replay", "M", "M", "M"],
     &["--jumps", "7", "check", "M"],
     &["--jumps=02", "check", "M"],
     &["check", "M", "--runs", "most"],
