@@ -9,4 +9,4 @@ mod stepping;
 
 pub use counts::{Counts, DriveFault};
 pub use driver::Drive;
-pub use stepping::Stepping;
+pub use stepping::{Step, Stepping};

@@ -17,7 +17,7 @@ use succ_memo::{Fill, Filler};
 
 /// Makes the entry of a gap by a step over it.
 #[derive(Drop)]
-struct Step;
+pub struct Step;
 
 impl Fill<GapRelation> for Step {
     fn answer(&self, alloc: Global, key: &Key) -> Result<Outcome, AllocError> {
