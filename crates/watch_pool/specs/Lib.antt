@@ -1,0 +1,4 @@
+pub mod Closed
+pub mod Counted
+pub mod Faults
+pub mod Found
