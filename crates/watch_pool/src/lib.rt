@@ -8,8 +8,10 @@ mod driving;
 mod kept;
 mod receipts;
 mod shared;
+mod slots;
 
 pub use driving::drive;
 pub use kept::Kept;
 pub use receipts::{Looked, Pending, Receipt, Shares};
 pub use shared::{Closed, Shared};
+pub use slots::{Slot, run_window};
