@@ -10,12 +10,11 @@ use Rattle.run_specs.specs.Logs.{Sample}
 use Rattle.run_specs.specs.Sessions.{MonitorSession, IsInTime, MayBegin, accepted, wanted_for}
 use Rattle.live_session.specs.Driven.{IsDriven}
 use Rattle.live_session.proofs.DrivenLemmas.{driven_log, driven_columns, driven_automaton, driven_idle}
-use Rattle.live_session.specs.Refusals.{IsRefused}
 use Rattle.live_session.specs.declared.refusals.SampleRefusal.{SampleRefusal}
 use Rattle.live_session.specs.declared.refusals.SampleRefusal.TheVariants.{Cells, Time, Limit, Memory}
 use Rattle.session_drive.specs.declared.counts.DriveFault.{DriveFault}
 use Rattle.session_drive.specs.declared.counts.DriveFault.TheVariants as fault
-use Rattle.watch_pool.specs.Faults.{fault_of, IsFault}
+use Rattle.session_drive.specs.Remembered.{IsUndriven}
 use Rattle.watch_pool.specs.Counted.{looks_for}
 use Rattle.watch_pool.specs.Slots.{MayDrive, HasLogNumbers, IsReady, Drives, DrivesSome, DrivesPrefix, DrivesAll}
 use Rattle.watch_pool.specs.OneSample.{IsReadyAt, DrivesOne, DrivesNone}
@@ -25,14 +24,14 @@ use Rattle.watch_pool.specs.declared.slots.Slot.{Slot}
 -- ---- which samples may be driven
 
 -- a sample that may be begun is not refused
-pub never_refused : (s : MonitorSession) (x : Sample) (f : DriveFault) (why : SampleRefusal) → f ≡ fault.Refused why → IsFault s x f → MayBegin s x → ⊥
-never_refused s x f why refused is may = go is.0 is.1 (sym refused ∙ is.2)
+pub never_refused : (s : MonitorSession) (x : Sample) (f : DriveFault) (why : SampleRefusal) → f ≡ fault.Refused why → IsUndriven s x f → MayBegin s x → ⊥
+never_refused s x f why refused is may = go why (subst (IsUndriven s x) refused is)
   where
-    go : (y : SampleRefusal) → IsRefused s x y → fault.Refused why ≡ fault_of y → ⊥
-    go Cells h e = h may.cells
-    go Time h e = h.1 may.time
-    go Limit h e = omega (arith, h.2, may.room)
-    go Memory h e = cc
+    go : (y : SampleRefusal) → IsUndriven s x (fault.Refused y) → ⊥
+    go Cells h = h.0 may.cells
+    go Time h = h.0.1 may.time
+    go Limit h = omega (arith, h.0.2, may.room)
+    go Memory h = h.1 refl
 
 may_begin_like : (s t : MonitorSession) (x : Sample) → t.columns ≡ s.columns → t.log ≡ s.log → MayBegin s x → MayBegin t x
 may_begin_like s t x columns log may = record {

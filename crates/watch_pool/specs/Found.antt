@@ -3,7 +3,7 @@ use Rattle.std.specs.Prelude.{◌≡◌, Option, Some, None, ⊤}
 use Rattle.std.specs.Arc.{arc_value}
 use Rattle.run_specs.specs.Keys.{Key}
 use Rattle.gap_keys.specs.declared.outcomes.Outcome.{Outcome}
-use Rattle.watch_pool.specs.Counted.{hit_counts}
+use Rattle.session_drive.specs.Remembered.{one_hit}
 use Rattle.watch_pool.specs.declared.receipts.Looked.{Looked}
 use Rattle.watch_pool.specs.declared.receipts.Looked.TheVariants.{Hit, Miss}
 
@@ -20,5 +20,5 @@ module _ {H F : Type 0} where
 
   -- a hit counts one look and one hit
   abbrev pub CountsHit : Looked H F → Type 0
-  CountsHit (Hit entry receipt) = receipt.counts ≡ hit_counts
+  CountsHit (Hit entry receipt) = receipt.counts ≡ one_hit
   CountsHit (Miss ticket pending) = ⊤

@@ -5,45 +5,20 @@ ghost use Rattle.std.specs.Arc.{arc_value};
 ghost use Rattle.number_specs.specs.LogNumbers.{IsLogNumber};
 ghost use Rattle.run_specs.specs.Logs as logs;
 ghost use Rattle.run_specs.specs.Sessions.{IsMonitorSession, Idle, Begun, wanted, wanted_for};
-ghost use Rattle.gap_keys.specs.Answering.{IsAnswer};
 ghost use Rattle.live_session.specs.Driven.{IsDriven, IsGiven};
+ghost use Rattle.session_drive.specs.Remembered.{IsUndriven};
 ghost use Rattle.watch_pool.specs.Counted.{looks_for};
-ghost use Rattle.watch_pool.specs.Faults.{fault_of, IsFault};
 
 use crate::receipts::{Looked, Receipt};
 use crate::shared::Shared;
 use gap_keys::Key;
 use lha_model::Sample;
-use live_session::{GapRelation, SampleRefusal, Session, Verdict};
-use session_drive::DriveFault;
+use live_session::{GapRelation, Session, Verdict};
+use session_drive::{DriveFault, begin, made_twice};
 use std::alloc::{AllocError, Global};
 use std::sync::ledger::Ledger;
 use std::sync::{Arc, Wait};
 use succ_memo::{Fill, Held};
-
-/// The fault of a drive for which the session refuses its sample.
-fn fault_of_refusal(refusal: SampleRefusal) -> DriveFault
-    ensures { result ≡ fault_of refusal }
-{
-    match refusal {
-        SampleRefusal::Memory => DriveFault::Memory,
-        why => DriveFault::Refused(why),
-    }
-}
-
-/// Two shares of a new entry for a key.
-fn fill_twice<H: Ledger, F: Ledger, A: Fill<GapRelation>>(
-    alloc: Global,
-    shared: &Shared<H, F, A>,
-    key: &Key,
-) -> Result<(Arc<Held<GapRelation>>, Arc<Held<GapRelation>>), AllocError>
-    ensures { IfOk result (λ both. ((arc_value both.0).0 ≡ key.now) × (arc_value both.1 ≡ arc_value both.0)) }
-{
-    let key = key.copy(alloc)?;
-    let entry = shared.filler.fill(alloc, key)?;
-    let mine = Arc::try_clone(&entry)?;
-    Ok((entry, mine))
-}
 
 /// The entry of a key, from the memo, or else made while the lock is free, and put.
 fn serve<H: Ledger, F: Ledger, A: Fill<GapRelation>, R: Wait>(
@@ -58,7 +33,7 @@ fn serve<H: Ledger, F: Ledger, A: Fill<GapRelation>, R: Wait>(
     let looked = shared.kept.lock(rt).look(key)?;
     match looked {
         Looked::Hit(entry, receipt) => Ok((entry, receipt)),
-        Looked::Miss(ticket, pending) => match fill_twice(alloc, shared, key) {
+        Looked::Miss(ticket, pending) => match made_twice(alloc, &shared.filler, key) {
             Ok((entry, mine)) => {
                 let receipt = shared.kept.lock(rt).put(alloc, ticket, entry, pending)?;
                 Ok((mine, receipt))
@@ -117,14 +92,12 @@ pub fn drive<H: Ledger, F: Ledger, A: Fill<GapRelation>, R: Wait>(
     ensures looks { IfOk result (λ done. done.1.counts.looks ≡ looks_for (wanted_for session.old sample.now None)) }
     ensures each_look { IfOk result (λ done. done.1.counts.hits + done.1.counts.fills ≡ done.1.counts.looks) }
     ensures err { OnErr result (session.new ≡ session.old) }
-    ensures fault { IfErr result (IsFault session.old sample.now) }
+    ensures undriven { IfErr result (IsUndriven session.old sample.now) }
     ensures kept { IsMonitorSession session.old }
 {
     // An idle session has no entry, as its readers say.
     session.log();
-    if let Err(refusal) = session.begin(alloc, sample) {
-        return Err(fault_of_refusal(refusal));
-    }
+    begin(session, alloc, sample)?;
     match give_wanted(rt, alloc, session, shared) {
         Ok(receipt) => Ok((session.finish(), receipt)),
         Err(AllocError) => {

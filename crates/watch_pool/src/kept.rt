@@ -5,15 +5,16 @@ ghost use Rattle.std.specs.Arc.{arc_value};
 ghost use Rattle.std.specs.Map.{lookup_entry};
 ghost use Rattle.gap_keys.specs.Answering.{IsAnswer};
 ghost use Rattle.succ_memo.specs.Memo.{IsMemo, memo_after_look, memo_after_put, memo_after_give_up};
-ghost use Rattle.watch_pool.specs.Counted.{fill_counts};
+ghost use Rattle.session_drive.specs.Remembered.{one_fill};
 
 use crate::receipts::{Looked, Pending, Receipt, Shares};
 use gap_keys::Key;
 use live_session::GapRelation;
+use session_drive::put_or_give_up;
 use std::alloc::{AllocError, Global};
 use std::sync::Arc;
 use std::sync::ledger::{Blank, Book, Ledger, Share};
-use succ_memo::{Held, Look, MemoState, PutFault, Ticket, Totals};
+use succ_memo::{Held, Look, MemoState, Ticket, Totals};
 
 /// How many parts each ledger has.
 const PARTS: u64 = 1 << 63;
@@ -142,7 +143,7 @@ impl<H: Ledger, F: Ledger> Kept<H, F> {
         pending: Pending<H, F>,
     ) -> Result<Receipt<H, F>, AllocError>
         ensures ok { OnOk result (self.new.memo ≡ memo_after_put ⟦<Key as PartialEq>⟧.eq (arc_value entry) self.old.memo) }
-        ensures counts { IfOk result (λ receipt. receipt.counts ≡ fill_counts) }
+        ensures counts { IfOk result (λ receipt. receipt.counts ≡ one_fill) }
         ensures err { OnErr result (self.new.memo ≡ memo_after_give_up self.old.memo) }
     {
         let Kept {
@@ -153,10 +154,7 @@ impl<H: Ledger, F: Ledger> Kept<H, F> {
             hits_left: _,
             fills_left: _,
         } = self;
-        if let Err(PutFault { ticket, entry: _ }) = memo.put(alloc, ticket, entry) {
-            memo.give_up(ticket);
-            return Err(AllocError);
-        }
+        put_or_give_up(alloc, memo, ticket, entry)?;
         let Pending { shares } = pending;
         let Shares {
             hits: hit,

@@ -2,10 +2,10 @@
 
 ghost use Rattle.std.specs.Prelude.{◌≡◌, ◌+◌, ◌≤◌};
 ghost use Rattle.std.specs.Option.{ForSome, ForNone};
-ghost use Rattle.watch_pool.specs.Counted.{no_counts, hit_counts, fill_counts};
+ghost use Rattle.session_drive.specs.Remembered.{no_look, one_hit, one_fill};
 
 use live_session::GapRelation;
-use session_drive::Counts;
+use session_drive::{Counts, NO_LOOK, ONE_FILL, ONE_HIT};
 use std::sync::Arc;
 use std::sync::ledger::{Ledger, Share};
 use succ_memo::{Held, Ticket};
@@ -55,14 +55,10 @@ pub enum Looked<H: Ledger, F: Ledger> {
 impl<H: Ledger, F: Ledger> Receipt<H, F> {
     /// The receipt of a call that did not look.
     pub(crate) fn none() -> Receipt<H, F>
-        ensures { result.counts ≡ no_counts }
+        ensures { result.counts ≡ no_look }
     {
         Receipt {
-            counts: Counts {
-                looks: 0,
-                hits: 0,
-                fills: 0,
-            },
+            counts: NO_LOOK,
             shares: None,
         }
     }
@@ -70,14 +66,10 @@ impl<H: Ledger, F: Ledger> Receipt<H, F> {
     /// The receipt of a look that found an entry.
     pub(crate) fn of_hit(shares: Shares<H, F>) -> Receipt<H, F>
         requires { (shares.hits.amount ≡ 1) × (shares.fills.amount ≡ 0) }
-        ensures { result.counts ≡ hit_counts }
+        ensures { result.counts ≡ one_hit }
     {
         Receipt {
-            counts: Counts {
-                looks: 1,
-                hits: 1,
-                fills: 0,
-            },
+            counts: ONE_HIT,
             shares: Some(shares),
         }
     }
@@ -85,14 +77,10 @@ impl<H: Ledger, F: Ledger> Receipt<H, F> {
     /// The receipt of a look that found none, and of the put after it.
     pub(crate) fn of_fill(shares: Shares<H, F>) -> Receipt<H, F>
         requires { (shares.hits.amount ≡ 0) × (shares.fills.amount ≡ 1) }
-        ensures { result.counts ≡ fill_counts }
+        ensures { result.counts ≡ one_fill }
     {
         Receipt {
-            counts: Counts {
-                looks: 1,
-                hits: 0,
-                fills: 1,
-            },
+            counts: ONE_FILL,
             shares: Some(shares),
         }
     }

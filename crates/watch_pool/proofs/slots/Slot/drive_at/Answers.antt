@@ -15,7 +15,7 @@ drive-requires-clause-cells g c = (has_numbers c.args.self.now c.args.i c.requir
 pub unreachable-requires : goal.unreachable-requires
 unreachable-requires g c =
     never_refused c.args.self.now.session c.index.result.now c.in-Err-Refused.field-0 c.in-Err-Refused.field-0-0 c.in-Err-Refused.field-0-is
-    c.in-Err-Refused.ensures.fault (may_begin c.args.self.now c.args.i c.requires.ready c.index.result.now c.index.ensures)
+    c.in-Err-Refused.ensures.undriven (may_begin c.args.self.now c.args.i c.requires.ready c.index.result.now c.index.ensures)
 
 pub returns-in-Ok-clause-ok : goal.returns-in-Ok-clause-ok
 returns-in-Ok-clause-ok g c =
