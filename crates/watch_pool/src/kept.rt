@@ -88,7 +88,7 @@ impl<H: Ledger, F: Ledger> Kept<H, F> {
     /// # Errors
     ///
     /// Want of memory, and where all shares were handed out. The memo is then as before.
-    pub fn look(&mut self, key: &Key) -> Result<Looked<H, F>, AllocError>
+    pub(crate) fn look(&mut self, key: &Key) -> Result<Looked<H, F>, AllocError>
         ensures found { IfOk result (λ looked. found_in looked ≡ lookup_entry (⟦<Key as PartialEq>⟧.eq key.now) self.old.memo.entries) }
         ensures key { IfOk result (HasKey key.now) }
         ensures memo { IfOk result (λ looked. self.new.memo ≡ memo_after_look (⟦<Key as PartialEq>⟧.eq key.now) (found_in looked) self.old.memo) }
@@ -135,7 +135,7 @@ impl<H: Ledger, F: Ledger> Kept<H, F> {
     /// # Errors
     ///
     /// Want of memory: the ticket is given up, and its shares are lost.
-    pub fn put(
+    pub(crate) fn put(
         &mut self,
         alloc: Global,
         ticket: Ticket,
@@ -168,7 +168,7 @@ impl<H: Ledger, F: Ledger> Kept<H, F> {
     }
 
     /// Gives a ticket up. No entry changes, and it takes no memory.
-    pub fn give_up(&mut self, ticket: Ticket)
+    pub(crate) fn give_up(&mut self, ticket: Ticket)
         ensures { self.new.memo ≡ memo_after_give_up self.old.memo }
     {
         self.memo.give_up(ticket);

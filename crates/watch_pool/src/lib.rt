@@ -12,6 +12,6 @@ mod slots;
 
 pub use driving::drive;
 pub use kept::Kept;
-pub use receipts::{Looked, Pending, Receipt, Shares};
+pub use receipts::Receipt;
 pub use shared::{Closed, Shared};
 pub use slots::{Slot, run_window};

@@ -12,7 +12,7 @@ use succ_memo::{Held, Ticket};
 
 /// A part of each ledger, with the amounts of one call.
 #[derive(Drop)]
-pub struct Shares<H: Ledger, F: Ledger> {
+pub(crate) struct Shares<H: Ledger, F: Ledger> {
     pub(crate) hits: Share<H>,
     pub(crate) fills: Share<F>,
     ghost hits_part: { hits.parts ≡ 1 },
@@ -38,14 +38,14 @@ pub struct Receipt<H: Ledger, F: Ledger> {
 
 /// The shares of a look that found no entry, until its put.
 #[derive(Drop)]
-pub struct Pending<H: Ledger, F: Ledger> {
+pub(crate) struct Pending<H: Ledger, F: Ledger> {
     pub(crate) shares: Shares<H, F>,
     ghost no_hit: { shares.hits.amount ≡ 0 },
     ghost no_fill: { shares.fills.amount ≡ 0 },
 }
 
 /// What a look under the lock found.
-pub enum Looked<H: Ledger, F: Ledger> {
+pub(crate) enum Looked<H: Ledger, F: Ledger> {
     /// The entry of the key, and the receipt of the call.
     Hit(Arc<Held<GapRelation>>, Receipt<H, F>),
     /// No entry: the right to put one, and the shares that its put will count to.
