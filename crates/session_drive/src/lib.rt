@@ -15,6 +15,6 @@ mod stepping;
 pub use counts::{Counts, DriveFault};
 pub use driver::Drive;
 pub use fillers::{GatedStep, Step};
-pub use local::drive_local;
+pub use local::{NO_LOOK, ONE_FILL, ONE_HIT, begin, drive_local, made_twice, put_or_give_up};
 pub use remembering::Remembering;
 pub use stepping::Stepping;

@@ -18,28 +18,32 @@ use std::sync::Arc;
 use succ_memo::{Fill, Filler, Held, Look, MemoState, PutFault, Ticket};
 
 /// What is counted where no entry was wanted.
-const NO_LOOK: Counts = Counts {
+pub const NO_LOOK: Counts = Counts {
     looks: 0,
     hits: 0,
     fills: 0,
 };
 
 /// What is counted where the entry stood in the memo.
-const ONE_HIT: Counts = Counts {
+pub const ONE_HIT: Counts = Counts {
     looks: 1,
     hits: 1,
     fills: 0,
 };
 
 /// What is counted where the entry was made, and put into the memo.
-const ONE_FILL: Counts = Counts {
+pub const ONE_FILL: Counts = Counts {
     looks: 1,
     hits: 0,
     fills: 1,
 };
 
 /// An entry that is made for the key, and the same shared once more.
-fn made_twice<F: Fill<GapRelation>>(
+///
+/// # Errors
+///
+/// Want of memory.
+pub fn made_twice<F: Fill<GapRelation>>(
     alloc: Global,
     filler: &Filler<GapRelation, F>,
     key: &Key,
@@ -54,7 +58,11 @@ fn made_twice<F: Fill<GapRelation>>(
 }
 
 /// Spends a ticket on putting the entry, or, where memory is wanting, on nothing.
-fn put_or_give_up(
+///
+/// # Errors
+///
+/// Want of memory.
+pub fn put_or_give_up(
     alloc: Global,
     memo: &mut MemoState<GapRelation>,
     ticket: Ticket,
@@ -141,7 +149,11 @@ fn give_served<F: Fill<GapRelation>>(
 }
 
 /// Begins the sample.
-fn begin(session: &mut Session, alloc: Global, sample: &Sample) -> Result<(), DriveFault>
+///
+/// # Errors
+///
+/// The first reason why the sample is refused, or want of memory. The session is then as before.
+pub fn begin(session: &mut Session, alloc: Global, sample: &Sample) -> Result<(), DriveFault>
     requires idle { session.old.phase ≡ Idle }
     requires time { IsLogNumber sample.now.time }
     requires cells { All (λ cell. IfSome cell IsLogNumber) sample.now.cells }
