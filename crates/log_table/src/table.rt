@@ -185,7 +185,7 @@ impl LogTable {
     {
         match self.sessions.get(&SessionName::of(alloc, name)) {
             Some(opened) => opened.first_run(alloc),
-            None => unreachable!(),
+            None => Err(RowFault::Memory),
         }
     }
 }
