@@ -23,14 +23,23 @@ impl Tally {
     pub(crate) fn with(self, verdict: Verdict) -> Option<Tally>
         ensures { IfSome result (λ t. t ≡ with_reply self verdict) }
     {
-        let mut tally = self;
-        let count = match verdict {
-            Verdict::Alarm => &mut tally.alarm,
-            Verdict::Safe => &mut tally.safe,
-            Verdict::Impossible => &mut tally.impossible,
-            Verdict::Overflow => &mut tally.overflow,
-        };
-        *count = count.checked_add(1)?;
-        Some(tally)
+        match verdict {
+            Verdict::Alarm => Some(Tally {
+                alarm: self.alarm.checked_add(1)?,
+                ..self
+            }),
+            Verdict::Safe => Some(Tally {
+                safe: self.safe.checked_add(1)?,
+                ..self
+            }),
+            Verdict::Impossible => Some(Tally {
+                impossible: self.impossible.checked_add(1)?,
+                ..self
+            }),
+            Verdict::Overflow => Some(Tally {
+                overflow: self.overflow.checked_add(1)?,
+                ..self
+            }),
+        }
     }
 }

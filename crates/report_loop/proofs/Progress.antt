@@ -105,13 +105,15 @@ end_status : (task : Task) (before : Streams) (l k o : Option (List ℕ)) (f h w
 end_status task before l k o f h w r new p pending got true b alarm overflow i g none nothing over =
     ends_all task before l k o f h w r new p pending got SomeAlarm i g none nothing over ((alarm_told p.tally i.replies i.counted).0 (leb-true 1 p.tally.alarm alarm))
 end_status task before l k o f h w r new p pending got false true alarm overflow i g none nothing over =
-    ends_all task before l k o f h w r new p pending got OnlyOverflow i g none nothing over
-    (no_reply p.tally.alarm i.replies verdict.Alarm alarm (alarm_told p.tally i.replies i.counted).1,
-    (overflow_told p.tally i.replies i.counted).0 (leb-true 1 p.tally.overflow overflow))
+    ends_all task before l k o f h w r new p pending got OnlyOverflow i g none nothing over (
+      no_reply p.tally.alarm i.replies verdict.Alarm alarm (alarm_told p.tally i.replies i.counted).1,
+      (overflow_told p.tally i.replies i.counted).0 (leb-true 1 p.tally.overflow overflow),
+    )
 end_status task before l k o f h w r new p pending got false false alarm overflow i g none nothing over =
-    ends_all task before l k o f h w r new p pending got AllTold i g none nothing over
-    (no_reply p.tally.alarm i.replies verdict.Alarm alarm (alarm_told p.tally i.replies i.counted).1,
-    no_reply p.tally.overflow i.replies verdict.Overflow overflow (overflow_told p.tally i.replies i.counted).1)
+    ends_all task before l k o f h w r new p pending got AllTold i g none nothing over (
+      no_reply p.tally.alarm i.replies verdict.Alarm alarm (alarm_told p.tally i.replies i.counted).1,
+      no_reply p.tally.overflow i.replies verdict.Overflow overflow (overflow_told p.tally i.replies i.counted).1,
+    )
 
 -- the reading failed
 pub fails : (task : Task) (before : Streams) (l k o : Option (List ℕ)) (f h w : ℕ) (r new : Reading) (p : Progress) (pending got : List ℕ) (x : ReadFault) →

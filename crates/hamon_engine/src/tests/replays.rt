@@ -83,7 +83,8 @@ const FOUR_GAPS: &str =
     "run 4\ngap 1 0\nat 0\nstay 0\nat 0\ngap 1 0\nat 0\nstay 4\nat 6\ngap 1 0\nat 6\nstay 6\nat 6\ngap 1 0\nat 6\nstay 1\nat 6\n";
 
 /// A number of 128 bits, and one more.
-const MANY_TIMES: &str = "run 1\ngap 170141183460469231731687303715884105728 0\nat 0\nstay 0\nat 0\n";
+const MANY_TIMES: &str =
+    "run 1\ngap 170141183460469231731687303715884105728 0\nat 0\nstay 0\nat 0\n";
 
 /// Numbers whose sum passes 128 bits.
 const LONG_LEG: &str =
@@ -92,7 +93,13 @@ const LONG_LEG: &str =
 /// Words, a log of the level, the text of a run, how the replay ends and what it writes.
 const REPLAYS: &[(&[&str], &str, &str, Status, &str)] = &[
     (REPLAY, LOG, RUN, Status::Alarm, "replay,alarm\n"),
-    (REPLAY, LOG, RUN_IN_A_REPORT, Status::Alarm, "replay,alarm\n"),
+    (
+        REPLAY,
+        LOG,
+        RUN_IN_A_REPORT,
+        Status::Alarm,
+        "replay,alarm\n",
+    ),
     (REPLAY, LINES_REFUSED, RUN, Status::Alarm, "replay,alarm\n"),
     (REPLAY, LOG, TWO_GAPS, Status::Clean, "replay,safe\n"),
     (NO_JUMP, LOG, TWO_GAPS, Status::Clean, "replay,safe\n"),
@@ -101,15 +108,39 @@ const REPLAYS: &[(&[&str], &str, &str, Status, &str)] = &[
     (NO_JUMP, LOG, RUN, Status::NotARun, "replay,no,3\n"),
     (REPLAY, LOG, FOUR_GAPS, Status::NotARun, "replay,no,0\n"),
     // no session is open
-    (REPLAY, "x,time\n0,0\n", TWO_GAPS, Status::NotARun, "replay,no,0\n"),
+    (
+        REPLAY,
+        "x,time\n0,0\n",
+        TWO_GAPS,
+        Status::NotARun,
+        "replay,no,0\n",
+    ),
     (REPLAY, "", RUN, Status::NotARun, "replay,no,0\n"),
     (REPLAY, LOG, "", Status::NotARun, "replay,text,1\n"),
     (REPLAY, LOG, "run 03\n", Status::NotARun, "replay,text,1\n"),
-    (REPLAY, LOG, "run 1\ngap 1 0", Status::NotARun, "replay,text,2\n"),
+    (
+        REPLAY,
+        LOG,
+        "run 1\ngap 1 0",
+        Status::NotARun,
+        "replay,text,2\n",
+    ),
     // one `+ ` alone is dropped
-    (REPLAY, LOG, "+ + run 1\n", Status::NotARun, "replay,text,1\n"),
+    (
+        REPLAY,
+        LOG,
+        "+ + run 1\n",
+        Status::NotARun,
+        "replay,text,1\n",
+    ),
     (REPLAY, LOG, MANY_TIMES, Status::NotARun, "replay,range,2\n"),
-    (REPLAY, LOG, "run 4294967296\n", Status::NotARun, "replay,range,1\n"),
+    (
+        REPLAY,
+        LOG,
+        "run 4294967296\n",
+        Status::NotARun,
+        "replay,range,1\n",
+    ),
 ];
 
 #[test]
@@ -173,7 +204,14 @@ const REPLAY_FAULTS: &[(&[u64], &[u64], &[u64], Status, &str, &str)] = &[
     (&[2], &[], &[], Status::ReadFault, "", "hamon: read fault\n"),
     (&[], &[1], &[], Status::ReadFault, "", "hamon: read fault\n"),
     (&[], &[3], &[], Status::ReadFault, "", "hamon: read fault\n"),
-    (&[], &[], &[1], Status::WriteFault, "", "hamon: write fault\n"),
+    (
+        &[],
+        &[],
+        &[1],
+        Status::WriteFault,
+        "",
+        "hamon: write fault\n",
+    ),
     (
         &[],
         &[],

@@ -9,14 +9,14 @@ use Rattle.log_session.proofs.ToldLemmas.{closing_told, refused_told}
 use Rattle.log_session.proofs.judged_log.JudgedLog.add_closing.Goals as goal
 
 pub returns-in-Ok-clause-ok : goal.returns-in-Ok-clause-ok
-returns-in-Ok-clause-ok c =
+returns-in-Ok-clause-ok g c =
     let i = c.self.inside in
     subst (λ (p : Progress). TellsClosing p (progress_of i.form (map (λ a. arc_value a) i.models.now) i.runs c.close.new.self true i.tally) c.args.number c.args.name.now c.args.blocks.now.items c.args.blocks.now.items)
     c.self.view_is
     (closing_told i.form (map (λ a. arc_value a) i.models.now) i.runs i.table i.has_begun c.close.new.self i.tally c.args.number c.args.name.now c.args.blocks.now.items c.in-Ok.ensures.ok)
 
 pub returns-in-Err-clause-ok : goal.returns-in-Err-clause-ok
-returns-in-Err-clause-ok c =
+returns-in-Err-clause-ok g c =
     let i = c.self.inside in
     on_ok_weaker c.refuse_not_taken.result
     (λ told task is.

@@ -11,7 +11,7 @@ use Rattle.log_session.proofs.HeaderLemmas.{header_told}
 use Rattle.log_session.proofs.judged_log.JudgedLog.add_header.Goals as goal
 
 pub returns-in-Ok-clause-ok : goal.returns-in-Ok-clause-ok
-returns-in-Ok-clause-ok c =
+returns-in-Ok-clause-ok g c =
     let i = c.self.inside in
     let models = map (λ a. arc_value a) i.models.now in
     let first = c.first_of-automaton.ensures.found ∙ ap (λ (p : Progress). first_automaton p.models) c.self.view_is in

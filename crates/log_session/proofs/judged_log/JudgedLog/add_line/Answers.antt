@@ -10,12 +10,12 @@ use Rattle.log_session.proofs.ToldLemmas.{told_after}
 use Rattle.log_session.proofs.judged_log.JudgedLog.add_line.Goals as goal
 
 pub returns-then-is_empty-clause-ok : goal.returns-then-is_empty-clause-ok
-returns-then-is_empty-clause-ok c = λ task is.
+returns-then-is_empty-clause-ok g c = λ task is.
     adds_nothing task c.args.self.now c.args.number c.args.line.now c.args.blocks.now.items
     (nil_from_length c.args.line.now (eqb-true (length c.args.line.now) 0 (sym c.is_empty.ensures ∙ c.if-is_empty.true)))
 
 pub returns-in-Watch-clause-ok : goal.returns-in-Watch-clause-ok
-returns-in-Watch-clause-ok c =
+returns-in-Watch-clause-ok g c =
     let some : c.args.line.now ≡ [] → ⊥ = λ e. eqb-false (length c.args.line.now) 0 (sym c.is_empty.ensures ∙ c.if-is_empty.false) (ap length e) in
     let form = sym (ap (λ (p : Progress). p.form) c.self.view_is) ∙ c.in-Watch.is in
     on_ok_weaker c.add_row.result
@@ -26,7 +26,7 @@ returns-in-Watch-clause-ok c =
     c.add_row.ensures.ok
 
 pub returns-in-Check-clause-ok : goal.returns-in-Check-clause-ok
-returns-in-Check-clause-ok c =
+returns-in-Check-clause-ok g c =
     let some : c.args.line.now ≡ [] → ⊥ = λ e. eqb-false (length c.args.line.now) 0 (sym c.is_empty.ensures ∙ c.if-is_empty.false) (ap length e) in
     let form = sym (ap (λ (p : Progress). p.form) c.self.view_is) ∙ c.in-Check.is in
     let begun : c.args.self.now.known.state.has_begun ≡ true = sym (ap (λ (p : Progress). p.known.state.has_begun) c.self.view_is) ∙ c.if-self.true in
@@ -38,7 +38,7 @@ returns-in-Check-clause-ok c =
     c.add_cells.ensures.ok
 
 pub returns-in-Check-2-clause-ok : goal.returns-in-Check-2-clause-ok
-returns-in-Check-2-clause-ok c =
+returns-in-Check-2-clause-ok g c =
     let some : c.args.line.now ≡ [] → ⊥ = λ e. eqb-false (length c.args.line.now) 0 (sym c.is_empty.ensures ∙ c.if-is_empty.false) (ap length e) in
     let form = sym (ap (λ (p : Progress). p.form) c.self.view_is) ∙ c.in-Check-2.is in
     let begun : c.args.self.now.known.state.has_begun ≡ false = sym (ap (λ (p : Progress). p.known.state.has_begun) c.self.view_is) ∙ c.if-self.false in

@@ -10,7 +10,7 @@ use Rattle.log_session.proofs.ToldLemmas.{opening_told, refused_told}
 use Rattle.log_session.proofs.judged_log.JudgedLog.add_opening.Goals as goal
 
 pub returns-in-Ok-clause-ok : goal.returns-in-Ok-clause-ok
-returns-in-Ok-clause-ok c =
+returns-in-Ok-clause-ok g c =
     let i = c.self.inside in
     let automaton = (option_map (λ a. arc_value a.now) c.args.automaton) in
     subst (λ (p : Progress). TellsOpening p (progress_of i.form (map (λ a. arc_value a) i.models.now) i.runs c.open.new.self true i.tally) c.args.number c.args.name.now c.args.columns.now automaton c.args.blocks.now.items c.args.blocks.now.items)
@@ -18,7 +18,7 @@ returns-in-Ok-clause-ok c =
     (opening_told i.form (map (λ a. arc_value a) i.models.now) i.runs i.table i.has_begun c.open.new.self i.tally c.args.number c.args.name.now c.args.columns.now automaton c.args.blocks.now.items c.in-Ok.ensures.ok)
 
 pub returns-in-Err-clause-ok : goal.returns-in-Err-clause-ok
-returns-in-Err-clause-ok c =
+returns-in-Err-clause-ok g c =
     let i = c.self.inside in
     on_ok_weaker c.refuse_not_taken.result
     (λ told task is.

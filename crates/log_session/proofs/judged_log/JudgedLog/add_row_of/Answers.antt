@@ -18,18 +18,18 @@ use Rattle.log_session.proofs.ToldLemmas.{flush_told}
 use Rattle.log_session.proofs.judged_log.JudgedLog.add_row_of.Goals as goal
 
 pub add_sample-requires-clause-time : goal.add_sample-requires-clause-time
-add_sample-requires-clause-time c =
+add_sample-requires-clause-time g c =
     let read = subst (λ (r : LogRow). IsRowOfALine (row_said r)) c.in-Sample.is c.requires.row in
     subst (λ (s : Sample). IsLogNumber s.time) (sym c.new-sample.ensures) read.1
 
 pub add_opening-requires-clause-distinct : goal.add_opening-requires-clause-distinct
-add_opening-requires-clause-distinct c =
+add_opening-requires-clause-distinct g c =
     let i = c.self.inside in
     named_has (λ a. arc_value a.now) (λ a. IsDistinct bytes_eq a.variables) (map (λ a. arc_value a) i.models.now) c.in-Opening.automaton c.named-automaton.result c.named-automaton.ensures
     c.self.invariant.distinct
 
 pub returns-in-Opening-clause-ok : goal.returns-in-Opening-clause-ok
-returns-in-Opening-clause-ok c =
+returns-in-Opening-clause-ok g c =
     let i = c.self.inside in
     let found = c.named-automaton.ensures ∙ ap (λ (p : Progress). automaton_of p.models c.in-Opening.automaton) c.self.view_is in
     on_ok_weaker c.add_opening.result
@@ -42,7 +42,7 @@ returns-in-Opening-clause-ok c =
     c.add_opening.ensures.ok
 
 pub returns-in-Sample-clause-ok : goal.returns-in-Sample-clause-ok
-returns-in-Sample-clause-ok c =
+returns-in-Sample-clause-ok g c =
     on_ok_weaker c.add_sample.result
     (λ told.
     subst (λ (r : LogRow). TellsRow c.args.self.now c.add_sample.new.self c.args.number (Ok (row_said r)) c.args.blocks.now.items c.add_sample.new.blocks.items) (sym c.in-Sample.is)
@@ -52,7 +52,7 @@ returns-in-Sample-clause-ok c =
     c.add_sample.ensures.ok
 
 pub returns-in-Flush-clause-ok : goal.returns-in-Flush-clause-ok
-returns-in-Flush-clause-ok c =
+returns-in-Flush-clause-ok g c =
     let i = c.self-in-Flush.inside in
     let models = map (λ a. arc_value a) i.models.now in
     λ task of.
