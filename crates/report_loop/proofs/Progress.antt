@@ -103,16 +103,16 @@ end_status : (task : Task) (before : Streams) (l k o : Option (List ℕ)) (f h w
     nat_le 1 p.tally.alarm ≡ a → nat_le 1 p.tally.overflow ≡ b → (i : IsReportingAt task before (streams l f o w) r p pending) → Gets l k r new got → HasNoFeed (r.held ++ got) →
     unmarked r.given (r.held ++ got) ≡ [] → new.has_ended ≡ true → SaysBut (rules_of task) before (streams k h o w) pending (if a then status.Alarm else if b then status.Overflow else status.Clean)
 end_status task before l k o f h w r new p pending got true b alarm overflow i g none nothing over =
-    ends_all task before l k o f h w r new p pending got SomeAlarm i g none nothing over ((alarm_told p.tally i.replies i.counted).0 (leb-true 1 p.tally.alarm alarm))
+    ends_all task before l k o f h w r new p pending got SomeAlarm i g none nothing over ((alarm_told p.tally i.replies i.tallied).0 (leb-true 1 p.tally.alarm alarm))
 end_status task before l k o f h w r new p pending got false true alarm overflow i g none nothing over =
     ends_all task before l k o f h w r new p pending got OnlyOverflow i g none nothing over (
-      no_reply p.tally.alarm i.replies verdict.Alarm alarm (alarm_told p.tally i.replies i.counted).1,
-      (overflow_told p.tally i.replies i.counted).0 (leb-true 1 p.tally.overflow overflow),
+      no_reply p.tally.alarm i.replies verdict.Alarm alarm (alarm_told p.tally i.replies i.tallied).1,
+      (overflow_told p.tally i.replies i.tallied).0 (leb-true 1 p.tally.overflow overflow),
     )
 end_status task before l k o f h w r new p pending got false false alarm overflow i g none nothing over =
     ends_all task before l k o f h w r new p pending got AllTold i g none nothing over (
-      no_reply p.tally.alarm i.replies verdict.Alarm alarm (alarm_told p.tally i.replies i.counted).1,
-      no_reply p.tally.overflow i.replies verdict.Overflow overflow (overflow_told p.tally i.replies i.counted).1,
+      no_reply p.tally.alarm i.replies verdict.Alarm alarm (alarm_told p.tally i.replies i.tallied).1,
+      no_reply p.tally.overflow i.replies verdict.Overflow overflow (overflow_told p.tally i.replies i.tallied).1,
     )
 
 -- the reading failed
@@ -187,7 +187,7 @@ goes_on task before l k o f h w r new p q pending after got line i g gives adds 
       blocks = subst (λ z. AreBlocks (rules_of task) nothing_known 1 (i.lines ++ a.0 ∷ []) z (i.replies ++ a.3.replies) q.known) bytes all;
       taken = i.taken;
       is_task = still_task task p q j a.3.replies a.3.next i.is_task;
-      counted = ap (λ (z : Progress). z.tally) a.3.next ∙ tally_more p.tally i.replies a.3.replies i.counted;
+      tallied = ap (λ (z : Progress). z.tally) a.3.next ∙ tally_more p.tally i.replies a.3.replies i.tallied;
       log_faults = omega (arith, first, reads);
       out_faults = i.out_faults;
     }
@@ -247,7 +247,7 @@ flushed task before l o x f w v r p pending after u i wrote =
           (sym (append-nil (i.written ++ pending)) ∙ ap (λ z. (i.written ++ pending) ++ z) (sym wrote.1)) i.blocks;
       taken = Appends-more before.out o x i.written pending i.taken wrote.0;
       is_task = i.is_task;
-      counted = i.counted;
+      tallied = i.tallied;
       log_faults = i.log_faults;
       out_faults = omega (arith, first, later);
     }
@@ -301,7 +301,7 @@ started_at task l o f w r form models jumps runs pending is fits none = record {
   blocks = (none, refl, refl);
   taken = Appends-nothing o;
   is_task = fits;
-  counted = refl;
+  tallied = refl;
   log_faults = omega arith;
   out_faults = omega arith;
 }

@@ -47,7 +47,7 @@ pub record IsReportingAt (task : Task) (before now : Streams) (r : Reading) (p :
   pub blocks : AreBlocks (rules_of task) nothing_known 1 lines (written ++ pending) replies p.known
   pub taken : Appends before.out now.out written
   pub is_task : IsTaskOf task p
-  pub counted : p.tally ≡ tally_of replies
+  pub tallied : p.tally ≡ tally_of replies
   pub log_faults : before.log_faults ≤ now.log_faults
   pub out_faults : before.out_faults ≤ now.out_faults
 
