@@ -1,7 +1,6 @@
 -- What the status of a replay says, by what was read and told.
-use Rattle.std.proofs.Common.{◌≡◌, ◌⊎◌, inl, inr, ℕ, ◌<◌, ◌≤◌, List, [], ◌++◌, length, take, drop, Option, None, Some, refl, sym, subst}
+use Rattle.std.proofs.Common.{◌≡◌, inl, inr, ℕ, ◌≤◌, List, [], ◌++◌, length, take, drop, Option, None, Some, refl, sym, subst}
 use Rattle.std.proofs.lemmas.List.{append-nil, take-append-drop}
-use Rattle.std.specs.Prelude.{IsErrOf}
 use Rattle.std.specs.Io.KnownBytes.{Appends, Keeps}
 use Rattle.mon_io.specs.Faults.{Rose}
 use Rattle.run_specs.specs.Automaton.{Automaton}
@@ -9,7 +8,6 @@ use Rattle.replay_reports.specs.declared.Finding.{Finding}
 use Rattle.replay_reports.specs.declared.Finding.TheVariants.{Alarm, Safe, No, Passes, Text, Range}
 use Rattle.replay_reports.specs.Findings.{Finds, line_of}
 use Rattle.report_loop.specs.declared.status.Status.{Status}
-use Rattle.report_loop.specs.declared.status.Status.TheVariants as status
 use Rattle.report_loop.specs.Outcome.{Streams}
 use Rattle.report_loop.proofs.WriteLemmas.{streams}
 use Rattle.replay_log.specs.declared.reading.NoText.{NoText}

@@ -35,10 +35,9 @@ impl From<AllocError> for NoText {
     }
 }
 
-/// Adds the next bytes of a source, and says how many; 0 is the end.
-fn gain<L: Source>(source: &mut L, chunk: &mut [u8], text: &mut Vec<u8>) -> Result<usize, NoText>
+/// Adds the next bytes of a source, which fill a chunk, and says how many; 0 is the end.
+fn gain_by<L: Source>(source: &mut L, chunk: &mut [u8], text: &mut Vec<u8>) -> Result<usize, NoText>
     requires { 0 < length chunk.old }
-    ensures chunk { length chunk.new ≡ length chunk.old }
     ensures gains { IfOk result (λ n. Gains (L.told source.old) (L.told source.new) text.old.items text.new.items n) }
     ensures end { IfOk result (λ n. n ≡ 0 → IsAtEnd (L.told source.new)) }
     ensures no_limit { IsErrOf result NoText.Long → ⊥ }
@@ -56,6 +55,18 @@ fn gain<L: Source>(source: &mut L, chunk: &mut [u8], text: &mut Vec<u8>) -> Resu
     }
 }
 
+/// Adds the next bytes of a source, and says how many; 0 is the end.
+fn gain<L: Source>(alloc: Global, source: &mut L, text: &mut Vec<u8>) -> Result<usize, NoText>
+    ensures gains { IfOk result (λ n. Gains (L.told source.old) (L.told source.new) text.old.items text.new.items n) }
+    ensures end { IfOk result (λ n. n ≡ 0 → IsAtEnd (L.told source.new)) }
+    ensures no_limit { IsErrOf result NoText.Long → ⊥ }
+    ensures later { L.faults source.old ≤ L.faults source.new }
+    ensures cause { IsErrOf result NoText.Failed → Rose (L.faults source.old) (L.faults source.new) }
+{
+    let mut chunk = vec![in alloc; 0u8; CHUNK]?;
+    gain_by(source, &mut chunk, text)
+}
+
 /// The whole text that a source gives, of at most 16,777,216 bytes. It returns whenever the source does.
 pub(crate) fn read_text<L: Source>(alloc: Global, source: &mut L) -> Result<Vec<u8>, NoText>
     ensures text { IfOk result (λ text. IsWholeText (L.told source.old) (L.told source.new) text.items) }
@@ -64,9 +75,8 @@ pub(crate) fn read_text<L: Source>(alloc: Global, source: &mut L) -> Result<Vec<
     ensures cause { IsErrOf result NoText.Failed → Rose (L.faults source.old) (L.faults source.new) }
 {
     let mut text = Vec::new(alloc);
-    let mut chunk = vec![in alloc; 0u8; CHUNK]?;
     'reads: while text.len() <= TEXT_LIMIT {
-        if gain(source, &mut chunk, &mut text)? == 0 {
+        if gain(alloc, source, &mut text)? == 0 {
             return Ok(text);
         }
     }
