@@ -1,0 +1,5 @@
+pub mod Outside
+pub mod Models
+pub mod Telling
+pub mod ReplayRuns
+pub mod Runs
